@@ -1,0 +1,12 @@
+-- Laws that the proofs of the functions and other crates cite, and the worked examples.
+pub mod Size
+mod Bits
+mod Rotations
+mod Sums
+pub mod Roots
+mod Schedule
+mod Messages
+mod Padding
+mod Arrays
+mod Calls
+mod Examples

@@ -1,0 +1,269 @@
+//! The reader of answers (section Questions and answers; the table, rows 11 to 24).
+
+use std::ops::Range;
+
+use crate::fields::{digest_at, u32_at, u64_at};
+use crate::graph::{incoming_digests, outgoing_digests, Dependency, Name, Version};
+use crate::log::MOST_RECORDS;
+use crate::sha256::{sha256, Digest};
+use crate::tree::{Subtree, GROUP, LEAF, NODE, ROOT};
+use crate::{enough_work, refuse, Question, Refusal, BACKWARD, FORWARD};
+
+#[derive(Clone, Copy, Debug, PartialEq, Eq)]
+pub enum Verdict {
+    NoEntity,
+    NotYet,
+    Found { time: u64, count: u64 },
+}
+
+/// What an accepted answer gives.
+#[derive(Clone, Debug, PartialEq, Eq)]
+pub struct Accepted {
+    pub verdict: Verdict,
+    /// Where the checked records lie in the answer; none if there is no trace.
+    pub records: Option<Range<usize>>,
+}
+
+/// Where the proof ends.
+enum End {
+    NoEntity,
+    NotYet,
+    Found(Leaf),
+}
+
+/// The opened L.
+struct Leaf {
+    name: Name,
+    incoming: Digest,
+    outgoing: Digest,
+}
+
+/// The rows by their order: 11, 14, the proof, the trace.
+pub fn check(
+    question: &Question,
+    commitment: &[u8],
+    answer: &[u8],
+    work: usize,
+) -> Result<Accepted, Refusal> {
+    if question.direction > FORWARD {
+        return refuse(11, 0);
+    }
+    let Ok(commitment) = <&Digest>::try_from(commitment) else {
+        return refuse(14, 0);
+    };
+    let mut cursor = Cursor { answer, place: 0 };
+    let verdict = match proof(question, commitment, &mut cursor)? {
+        End::NoEntity => Verdict::NoEntity,
+        End::NotYet => Verdict::NotYet,
+        End::Found(leaf) if question.direction == BACKWARD || question.direction == FORWARD => {
+            return trace(question.direction, &leaf, &mut cursor, work);
+        }
+        End::Found(leaf) => Verdict::Found { time: leaf.name.time, count: 0 },
+    };
+    cursor.end()?;
+    Ok(Accepted { verdict, records: None })
+}
+
+/// The place up to which the answer has been read.
+struct Cursor<'a> {
+    answer: &'a [u8],
+    place: usize,
+}
+
+impl<'a> Cursor<'a> {
+    /// A string, trace header or record by 15 (no byte), 16, 15 (width).
+    /// `width` is none for a letter that is not due.
+    fn piece(&mut self, width: impl Fn(u8) -> Option<usize>) -> Result<&'a [u8], Refusal> {
+        let rest = &self.answer[self.place..];
+        let Some(&letter) = rest.first() else {
+            return refuse(15, self.place);
+        };
+        let Some(width) = width(letter) else {
+            return refuse(16, self.place);
+        };
+        if rest.len() < width {
+            return refuse(15, self.place);
+        }
+        self.place += width;
+        Ok(&rest[..width])
+    }
+
+    /// A proof string: as a piece, then 17.
+    fn open(&mut self, letter: u8, width: usize, due: &Digest) -> Result<&'a [u8], Refusal> {
+        let start = self.place;
+        let string = self.piece(|found| (found == letter).then_some(width))?;
+        if sha256(string) != *due {
+            return refuse(17, start);
+        }
+        Ok(string)
+    }
+
+    /// Row 18: bytes after the end.
+    fn end(&self) -> Result<(), Refusal> {
+        if self.place < self.answer.len() {
+            return refuse(18, self.place);
+        }
+        Ok(())
+    }
+}
+
+/// The opened strings, top down.
+fn proof(question: &Question, commitment: &Digest, cursor: &mut Cursor) -> Result<End, Refusal> {
+    let root = cursor.open(b'R', ROOT, commitment)?;
+    let Some(tree) = entity_walk(u64::from(question.entity), Subtree::at(root, 17), cursor)? else {
+        return Ok(End::NoEntity);
+    };
+    let Some(leaf) = time_walk(question.time, tree, cursor)? else {
+        return Ok(End::NotYet);
+    };
+    Ok(End::Found(leaf))
+}
+
+/// The walk in the tree of entities; gives the entity's tree, or none: no entity.
+fn entity_walk(s: u64, mut known: Subtree, cursor: &mut Cursor) -> Result<Option<Subtree>, Refusal> {
+    loop {
+        if s < known.least || s > known.greatest {
+            return Ok(None);
+        }
+        if known.least == known.greatest {
+            let string = cursor.open(b'G', GROUP, &known.digest)?;
+            return Ok(Some(Subtree::at(string, 9)));
+        }
+        let string = cursor.open(b'P', NODE, &known.digest)?;
+        let (left, right) = (Subtree::at(string, 1), Subtree::at(string, 49));
+        known = if s <= left.greatest { left } else { right };
+    }
+}
+
+/// The walk in the entity's tree; gives the opened L, or none: not yet.
+fn time_walk(t: u64, mut known: Subtree, cursor: &mut Cursor) -> Result<Option<Leaf>, Refusal> {
+    loop {
+        if t < known.least {
+            return Ok(None);
+        }
+        if known.least == known.greatest {
+            let string = cursor.open(b'L', LEAF, &known.digest)?;
+            return Ok(Some(Leaf {
+                name: Name { entity: u32_at(string, 1), time: u64_at(string, 5) },
+                incoming: digest_at(string, 13),
+                outgoing: digest_at(string, 45),
+            }));
+        }
+        let string = cursor.open(b'N', NODE, &known.digest)?;
+        let (left, right) = (Subtree::at(string, 1), Subtree::at(string, 49));
+        known = if t >= right.least { right } else { left };
+    }
+}
+
+/// A record of a trace and its first byte.
+struct TraceRecord {
+    start: usize,
+    version: Version,
+}
+
+/// The trace: header, each record, then 18, 22, 23, 24.
+fn trace(direction: u8, leaf: &Leaf, cursor: &mut Cursor, work: usize) -> Result<Accepted, Refusal> {
+    let count = header(direction, cursor, work)?;
+    let first = cursor.place;
+    let mut starts = Vec::new();
+    let mut versions: Vec<Version> = Vec::new();
+    for own in 0..count {
+        let previous_time = versions.last().map(|version| version.name.time);
+        let record = record(direction, own, previous_time, cursor)?;
+        starts.push(record.start);
+        versions.push(record.version);
+    }
+    cursor.end()?;
+    if direction == BACKWARD {
+        if let Some(idle) = idle(&versions) {
+            return refuse(22, starts[idle]);
+        }
+    }
+    let found = if direction == BACKWARD { count - 1 } else { 0 };
+    if versions[found].name != leaf.name {
+        return refuse(23, starts[found]);
+    }
+    let same = if direction == BACKWARD {
+        incoming_digests(&versions)[found] == leaf.incoming
+    } else {
+        outgoing_digests(&versions)[found] == leaf.outgoing
+    };
+    if !same {
+        return refuse(24, starts[found]);
+    }
+    let verdict = Verdict::Found { time: leaf.name.time, count: count as u64 };
+    Ok(Accepted { verdict, records: Some(first..cursor.place) })
+}
+
+/// The trace header by 15, 16, 15, 19, 12; gives the count.
+fn header(direction: u8, cursor: &mut Cursor, work: usize) -> Result<usize, Refusal> {
+    let start = cursor.place;
+    let letter = if direction == BACKWARD { b'B' } else { b'F' };
+    let header = cursor.piece(|found| (found == letter).then_some(5))?;
+    let count = u32_at(header, 1) as usize;
+    if count == 0 || count > MOST_RECORDS {
+        return refuse(19, start);
+    }
+    enough_work(work, count)?;
+    Ok(count)
+}
+
+/// A record by 15, 16, 15, 20, 21. `own` is the record's position.
+fn record(
+    direction: u8,
+    own: usize,
+    previous_time: Option<u64>,
+    cursor: &mut Cursor,
+) -> Result<TraceRecord, Refusal> {
+    let start = cursor.place;
+    let bytes = cursor.piece(|letter| record_width(direction, own, letter))?;
+    let version = decode_record(bytes);
+    let source = version.dependency.map(|edge| edge.source);
+    if version.temporal.into_iter().chain(source).any(|position| position >= own) {
+        return refuse(20, start);
+    }
+    if previous_time.is_some_and(|previous| version.name.time <= previous) {
+        return refuse(21, start);
+    }
+    Ok(TraceRecord { start, version })
+}
+
+/// The width of a record by its letter, none if the letter is not due.
+fn record_width(direction: u8, own: usize, letter: u8) -> Option<usize> {
+    match (direction, letter) {
+        (BACKWARD, b'E') => Some(13),
+        (BACKWARD, b'V') => Some(22),
+        (FORWARD, b'S') if own == 0 => Some(13),
+        (FORWARD, b'T') if own > 0 => Some(17),
+        (FORWARD, b'D') if own > 0 => Some(18),
+        (FORWARD, b'V') if own > 0 => Some(22),
+        _ => None,
+    }
+}
+
+/// The version and the edges that a record shows.
+fn decode_record(bytes: &[u8]) -> Version {
+    let name = Name { entity: u32_at(bytes, 1), time: u64_at(bytes, 5) };
+    let position = |at| u32_at(bytes, at) as usize;
+    let (temporal, dependency) = match bytes[0] {
+        b'T' => (Some(position(13)), None),
+        b'D' => (None, Some(Dependency { kind: bytes[13], source: position(14) })),
+        b'V' => (Some(position(14)), Some(Dependency { kind: bytes[13], source: position(18) })),
+        _ => (None, None),
+    };
+    Version { name, temporal, dependency }
+}
+
+/// The lowest record that is not last and that no record refers to.
+fn idle(versions: &[Version]) -> Option<usize> {
+    let mut referred = vec![false; versions.len()];
+    for version in versions {
+        if let Some(start) = version.temporal {
+            referred[start] = true;
+        }
+        if let Some(edge) = version.dependency {
+            referred[edge.source] = true;
+        }
+    }
+    referred[..versions.len() - 1].iter().position(|&used| !used)
+}

@@ -1,0 +1,212 @@
+//! Reference implementation of verifiable causality answers over an event log:
+//! hash, log reader, graph, path digests, accumulator, answer writer, check
+//! and listing.
+//!
+//! Every call returns `number` 0 when it is not turned away, else the number
+//! and position of a row of the table in section "What turns a call away".
+//! A refused call leaves its output as it was. A work area is all zero after
+//! every call, and no result depends on what it or the output held before.
+
+#![forbid(unsafe_code)]
+
+pub mod check;
+pub mod fields;
+pub mod graph;
+pub mod host;
+pub mod listing;
+pub mod log;
+pub mod random;
+pub mod sha256;
+pub mod tree;
+pub mod vectors;
+
+/// Bytes of work area for each record.
+pub const WORK: usize = 128;
+
+/// The directions of a question.
+pub const VERSION_ONLY: u8 = 0;
+pub const BACKWARD: u8 = 1;
+pub const FORWARD: u8 = 2;
+
+/// A row's number and the byte position it returns.
+#[derive(Clone, Copy, Debug, PartialEq, Eq)]
+pub struct Refusal {
+    pub number: u64,
+    pub position: u64,
+}
+
+pub(crate) fn refuse<T>(number: u64, position: usize) -> Result<T, Refusal> {
+    Err(Refusal { number, position: position as u64 })
+}
+
+/// A direction, an entity and a time.
+#[derive(Clone, Copy, Debug, PartialEq, Eq)]
+pub struct Question {
+    pub direction: u8,
+    pub entity: u32,
+    pub time: u64,
+}
+
+/// The result of a call that writes a fixed number of bytes.
+#[derive(Clone, Copy, Debug, Default, PartialEq, Eq)]
+pub struct Outcome {
+    pub number: u64,
+    pub position: u64,
+}
+
+/// The result of a call with a length: of the bytes written, or of the log in records.
+#[derive(Clone, Copy, Debug, Default, PartialEq, Eq)]
+pub struct Written {
+    pub number: u64,
+    pub position: u64,
+    pub length: u64,
+}
+
+/// The verdicts as numbers.
+pub const REFUSED: u64 = 0;
+pub const NO_ENTITY: u64 = 1;
+pub const NOT_YET: u64 = 2;
+pub const FOUND: u64 = 3;
+
+/// The result of a check; `time` and `count` are 0 unless found.
+#[derive(Clone, Copy, Debug, Default, PartialEq, Eq)]
+pub struct Checked {
+    pub number: u64,
+    pub position: u64,
+    pub verdict: u64,
+    pub time: u64,
+    pub count: u64,
+}
+
+/// Where in the answer the checked records lie; 0, 0 if there are none.
+#[derive(Clone, Copy, Debug, Default, PartialEq, Eq)]
+pub struct Part {
+    pub start: u64,
+    pub length: u64,
+}
+
+/// SHA-256 of the message, 32 bytes. Row 13.
+pub fn hash(message: &[u8], out: &mut [u8]) -> Outcome {
+    outcome(write(&sha256::sha256(message), out))
+}
+
+/// The number of records of a sound log. Rows 1 to 10.
+pub fn log(bytes: &[u8]) -> Written {
+    written(log::read(bytes).map(|records| records.len()))
+}
+
+/// The listing program's text for an input. Row 13 only.
+pub fn listing(input: &[u8], out: &mut [u8]) -> Written {
+    written(write(listing::text(input).as_bytes(), out))
+}
+
+/// The commitment of a log, 32 bytes. Log, 12, 13.
+pub fn commitment(log: &[u8], work: &mut [u8], out: &mut [u8]) -> Outcome {
+    let length = work.len();
+    work.fill(0);
+    outcome(commitment_result(log, length, out))
+}
+
+fn commitment_result(log: &[u8], work: usize, out: &mut [u8]) -> Result<usize, Refusal> {
+    let records = log::read(log)?;
+    enough_work(work, records.len())?;
+    write(&host::Host::new(&records).commitment(), out)
+}
+
+/// The answer to a question about a log. 11, log, 12, 13.
+pub fn answer(
+    direction: u8,
+    entity: u32,
+    time: u64,
+    log: &[u8],
+    work: &mut [u8],
+    out: &mut [u8],
+) -> Written {
+    let length = work.len();
+    work.fill(0);
+    written(answer_result(&Question { direction, entity, time }, log, length, out))
+}
+
+fn answer_result(question: &Question, log: &[u8], work: usize, out: &mut [u8]) -> Result<usize, Refusal> {
+    if question.direction > FORWARD {
+        return refuse(11, 0);
+    }
+    let records = log::read(log)?;
+    enough_work(work, records.len())?;
+    write(&host::Host::new(&records).answer(question), out)
+}
+
+/// The check of an answer. 11, 14, the proof, the trace.
+pub fn check(
+    direction: u8,
+    entity: u32,
+    time: u64,
+    commitment: &[u8],
+    answer: &[u8],
+    work: &mut [u8],
+) -> Checked {
+    let length = work.len();
+    work.fill(0);
+    match check::check(&Question { direction, entity, time }, commitment, answer, length) {
+        Err(Refusal { number, position }) => Checked { number, position, ..Checked::default() },
+        Ok(accepted) => match accepted.verdict {
+            check::Verdict::NoEntity => Checked { verdict: NO_ENTITY, ..Checked::default() },
+            check::Verdict::NotYet => Checked { verdict: NOT_YET, ..Checked::default() },
+            check::Verdict::Found { time, count } => {
+                Checked { verdict: FOUND, time, count, ..Checked::default() }
+            }
+        },
+    }
+}
+
+/// The checked records as a part of the answer, without the trace header;
+/// empty if there are none or the check refuses.
+pub fn records(
+    direction: u8,
+    entity: u32,
+    time: u64,
+    commitment: &[u8],
+    answer: &[u8],
+    work: &mut [u8],
+) -> Part {
+    let length = work.len();
+    work.fill(0);
+    let question = Question { direction, entity, time };
+    match check::check(&question, commitment, answer, length) {
+        Ok(check::Accepted { records: Some(place), .. }) => {
+            Part { start: place.start as u64, length: place.len() as u64 }
+        }
+        _ => Part::default(),
+    }
+}
+
+/// Row 12: work area below 128 bytes a record.
+pub(crate) fn enough_work(work: usize, records: usize) -> Result<(), Refusal> {
+    if work < WORK * records {
+        return refuse(12, 0);
+    }
+    Ok(())
+}
+
+/// Row 13: output too short for the result; else the result is the output's first bytes.
+fn write(result: &[u8], out: &mut [u8]) -> Result<usize, Refusal> {
+    if out.len() < result.len() {
+        return refuse(13, 0);
+    }
+    out[..result.len()].copy_from_slice(result);
+    Ok(result.len())
+}
+
+fn outcome(result: Result<usize, Refusal>) -> Outcome {
+    match result {
+        Ok(_) => Outcome::default(),
+        Err(Refusal { number, position }) => Outcome { number, position },
+    }
+}
+
+fn written(result: Result<usize, Refusal>) -> Written {
+    match result {
+        Ok(length) => Written { number: 0, position: 0, length: length as u64 },
+        Err(Refusal { number, position }) => Written { number, position, length: 0 },
+    }
+}

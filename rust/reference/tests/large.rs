@@ -1,0 +1,102 @@
+//! The greatest logs: 65,535 records, one more, and the time they take.
+
+mod common;
+
+use std::time::{Duration, Instant};
+
+use common::*;
+use reference::log::{write, Record};
+use reference::random::{overlong_log, records_of_length, Random};
+use reference::{Question, Written};
+
+const MOST: usize = 65_535;
+
+/// Only an optimized build is held to a time; it has room for a busy machine.
+fn in_time(name: &str, start: Instant) {
+    let taken = start.elapsed();
+    println!("{name}: {taken:?}");
+    assert!(cfg!(debug_assertions) || taken < Duration::from_secs(3), "{name} took {taken:?}");
+}
+
+fn births(count: usize) -> Vec<Record> {
+    (0..count).map(|i| Record::Birth { entity: i as u32, time: i as u64 }).collect()
+}
+
+/// Two births, then flows; `turn` gives source and destination.
+fn flows(turn: impl Fn(usize) -> (u32, u32)) -> Vec<Record> {
+    let mut records = births(2);
+    records.extend((2..MOST).map(|i| {
+        let (source, destination) = turn(i);
+        Record::Flow { source, destination, kind: i as u8, time: i as u64 }
+    }));
+    records
+}
+
+fn round_trip(name: &str, log: &[u8], q: Question, count: u64) {
+    let start = Instant::now();
+    let (written, bytes) = answer_with(q, log, 128 * MOST, 1_500_000);
+    assert_eq!(written.number, 0);
+    in_time(&format!("{name}, answer"), start);
+    let (_, commitment) = commit_with(log, 128 * MOST, 32);
+    let start = Instant::now();
+    let checked = check_with(q, &commitment, &bytes, 128 * MOST);
+    in_time(&format!("{name}, check of {} bytes", bytes.len()), start);
+    assert_eq!((checked.number, checked.verdict, checked.count), (0, 3, count));
+}
+
+#[test]
+fn record_65536() {
+    for records in [births(MOST), flows(|_| (0, 1)), flows(|i| ((i & 1) as u32, (!i & 1) as u32))] {
+        let log = write(&records);
+        assert_eq!(reference::log(&log), Written { number: 0, position: 0, length: MOST as u64 });
+        for extra in [vec![0], birth(u32::MAX, u64::MAX), flow(0, 1, 0, u64::MAX), vec![1]] {
+            let longer = [&log[..], &extra].concat();
+            assert_eq!(reference::log(&longer), Written { number: 2, position: log.len() as u64, length: 0 });
+        }
+    }
+    let fault = overlong_log(&mut Random::new(11));
+    let result = reference::log(&fault.log);
+    assert_eq!((result.number, result.position), (fault.number, fault.position));
+}
+
+#[test]
+fn busy_source() {
+    let log = write(&flows(|_| (0, 1)));
+    round_trip("busy source, forward", &log, ask(2, 0, 0), MOST as u64 - 1);
+    round_trip("busy source, backward", &log, ask(1, 1, u64::MAX), MOST as u64);
+}
+
+#[test]
+fn alternating() {
+    let log = write(&flows(|i| ((i & 1) as u32, (!i & 1) as u32)));
+    round_trip("alternating, forward", &log, ask(2, 0, 0), MOST as u64 - 1);
+    round_trip("alternating, backward", &log, ask(1, 1, u64::MAX), MOST as u64);
+}
+
+#[test]
+fn many_entities() {
+    let log = write(&births(MOST));
+    round_trip("births, forward", &log, ask(2, 40_000, u64::MAX), 1);
+    let start = Instant::now();
+    let (outcome, _) = commit_with(&log, 128 * MOST, 32);
+    assert_eq!(outcome.number, 0);
+    in_time("births, commitment", start);
+    assert_eq!(commit_with(&log, 128 * MOST - 1, 32).0.number, 12);
+}
+
+#[test]
+fn random_large() {
+    let records = records_of_length(&mut Random::new(12), MOST);
+    assert_eq!(records.len(), MOST);
+    let log = write(&records);
+    let first = reference::host::Host::new(&records);
+    let Record::Birth { entity, .. } = records[0] else { unreachable!() };
+    for direction in 0..3 {
+        let q = ask(direction, entity, u64::MAX);
+        let start = Instant::now();
+        let (_, bytes) = answer_with(q, &log, 128 * MOST, 1_500_000);
+        in_time("random, answer", start);
+        assert_eq!(bytes, first.answer(&q));
+        assert_eq!(check_with(q, &first.commitment(), &bytes, 128 * MOST).verdict, 3);
+    }
+}

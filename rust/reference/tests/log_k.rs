@@ -1,0 +1,192 @@
+//! The cases of section Log K.
+
+mod common;
+
+use common::*;
+use reference::{Outcome, Part, Question, Written};
+
+const COMMITMENT: &str = "afa480e13388337b3ec74fcea39db57dddd6320386af49166a8fbf0d6f4511e1";
+
+#[test]
+fn log_and_commitment() {
+    assert_eq!(log_k().len(), 62);
+    assert_eq!(reference::log(&log_k()), Written { number: 0, position: 0, length: 4 });
+    assert_eq!(hex(&commit(&log_k())), COMMITMENT);
+}
+
+/// The letters of the opened strings.
+fn letters(answer: &[u8]) -> String {
+    let mut text = String::new();
+    let mut place = 0;
+    while place < answer.len() {
+        let letter = answer[place];
+        text.push(letter as char);
+        place += match letter {
+            b'R' => 65,
+            b'G' => 57,
+            b'L' => 77,
+            b'N' | b'P' => 97,
+            _ => return text,
+        };
+    }
+    text
+}
+
+fn found(q: Question, length: usize, path: &str, records: &[Vec<u8>], time: u64) {
+    let answer = answer(q, &log_k());
+    assert_eq!(answer.len(), length);
+    let tail = if q.direction == 0 {
+        Vec::new()
+    } else {
+        trace(if q.direction == 1 { b'B' } else { b'F' }, records)
+    };
+    assert!(answer.ends_with(&tail));
+    assert_eq!(letters(&answer), path);
+    let commitment = unhex(COMMITMENT);
+    assert_eq!(check(q, &commitment, &answer), accepted(3, time, records.len() as u64));
+    let part = common::records(q, &commitment, &answer);
+    let bytes = &answer[part.start as usize..(part.start + part.length) as usize];
+    assert_eq!(bytes, records.concat());
+    if q.direction != 0 {
+        assert_eq!(part.start as usize, answer.len() - records.concat().len());
+    }
+}
+
+fn stopped(q: Question, log: &[u8], length: usize, path: &str, verdict: u64) {
+    let answer = answer(q, log);
+    assert_eq!(answer.len(), length);
+    assert_eq!(letters(&answer), path);
+    let commitment = commit(log);
+    assert_eq!(check_with(q, &commitment, &answer, 0), accepted(verdict, 0, 0));
+    assert_eq!(common::records(q, &commitment, &answer), Part { start: 0, length: 0 });
+}
+
+#[test]
+fn backward_2_at_35() {
+    let records = [
+        record(b'E', 1, 10, None, &[]),
+        record(b'E', 2, 20, None, &[]),
+        record(b'V', 2, 30, Some(7), &[1, 0]),
+    ];
+    found(ask(1, 2, 35), 446, "RPGNLB", &records, 30);
+}
+
+#[test]
+fn forward_1_at_39() {
+    let records = [
+        record(b'S', 1, 10, None, &[]),
+        record(b'D', 2, 30, Some(7), &[0]),
+        record(b'V', 1, 40, Some(8), &[0, 1]),
+    ];
+    found(ask(2, 1, 39), 451, "RPGNLF", &records, 10);
+}
+
+#[test]
+fn forward_2_at_20() {
+    let records = [
+        record(b'S', 2, 20, None, &[]),
+        record(b'T', 2, 30, None, &[0]),
+        record(b'D', 1, 40, Some(8), &[1]),
+    ];
+    found(ask(2, 2, 20), 446, "RPGNLF", &records, 20);
+}
+
+#[test]
+fn version_only() {
+    found(ask(0, 2, 35), 393, "RPGNL", &[], 30);
+    found(ask(0, 1, u64::MAX), 393, "RPGNL", &[], 40);
+}
+
+#[test]
+fn not_yet_and_no_entity() {
+    for direction in 0..3 {
+        stopped(ask(direction, 2, 19), &log_k(), 219, "RPG", 2);
+        stopped(ask(direction, 3, 35), &log_k(), 65, "R", 1);
+        stopped(ask(direction, 0, 35), &log_k(), 65, "R", 1);
+        stopped(ask(direction, 3, 35), &[birth(1, 10), birth(5, 20)].concat(), 162, "RP", 1);
+    }
+}
+
+#[test]
+fn refused_logs() {
+    let at = |number, position| Written { number, position, length: 0 };
+    assert_eq!(reference::log(&[birth(1, 10), birth(2, 10)].concat()), at(5, 13));
+    assert_eq!(reference::log(&[log_k(), flow(1, 1, 7, 50)].concat()), at(9, 62));
+    assert_eq!(reference::log(&flow(1, 2, 7, 10)), at(7, 0));
+}
+
+#[test]
+fn refused_logs_reach_commitment_and_answer() {
+    for (log, number, position) in [
+        ([birth(1, 10), birth(2, 10)].concat(), 5, 13),
+        ([log_k(), flow(1, 1, 7, 50)].concat(), 9, 62),
+        (flow(1, 2, 7, 10), 7, 0),
+        (vec![], 1, 0),
+    ] {
+        assert_eq!(commit_with(&log, 0, 0).0, Outcome { number, position });
+        assert_eq!(answer_with(ask(0, 1, 1), &log, 0, 0).0, Written { number, position, length: 0 });
+        assert_eq!(commit_with(&log, ROOM, 64).0, Outcome { number, position });
+    }
+}
+
+#[test]
+fn work_area() {
+    let q = ask(1, 2, 35);
+    let (commitment, bytes) = (commit(&log_k()), answer(q, &log_k()));
+    assert_eq!(check_with(q, &commitment, &bytes, 384), accepted(3, 30, 3));
+    assert_eq!(check_with(q, &commitment, &bytes, 383), refused(12, 0));
+    let three = [birth(1, 10), birth(2, 20), flow(1, 2, 7, 30)].concat();
+    assert_eq!(commit_with(&three, 384, 32).0, Outcome { number: 0, position: 0 });
+    assert_eq!(commit_with(&three, 383, 32).0, Outcome { number: 12, position: 0 });
+    for direction in 0..3 {
+        for entity in [1, 9] {
+            let q = ask(direction, entity, 35);
+            assert_eq!(answer_with(q, &three, 384, 9000).0.number, 0);
+            let refusal = Written { number: 12, position: 0, length: 0 };
+            assert_eq!(answer_with(q, &three, 383, 9000).0, refusal);
+        }
+    }
+}
+
+fn list(input: &[u8]) -> String {
+    let (written, text) = with_output(40_000, |out| {
+        let written = reference::listing(input, out);
+        (written, written.length as usize)
+    });
+    assert_eq!((written.number, written.position), (0, 0));
+    if !text.is_empty() {
+        let refusal = Written { number: 13, position: 0, length: 0 };
+        assert_eq!(with_output(text.len() - 1, |out| (reference::listing(input, out), 0)).0, refusal);
+    }
+    String::from_utf8(text).unwrap()
+}
+
+#[test]
+fn listing() {
+    let text = "1 10 birth\n2 20 birth\n2 30 flow 7 from 1 10\n1 40 flow 8 from 2 30\n";
+    assert_eq!(list(&log_k()), text);
+    assert_eq!(list(&[]), "refused 1 at 0\n");
+    assert_eq!(list(&[log_k(), flow(1, 1, 7, 50)].concat()), "refused 9 at 62\n");
+    assert_eq!(list(&birth(u32::MAX, u64::MAX)), "4294967295 18446744073709551615 birth\n");
+    assert_eq!(list(&birth(0, 0)), "0 0 birth\n");
+}
+
+#[test]
+fn listing_limits() {
+    let births = |count: u32| -> Vec<u8> { (0..count).flat_map(|i| birth(i, u64::from(i))).collect() };
+    assert_eq!(list(&births(512)).lines().count(), 512);
+    assert_eq!(list(&births(513)), "too long\n");
+    assert_eq!(list(&[births(512), vec![9]].concat()), "too long\n");
+    assert_eq!(list(&[births(511), vec![9]].concat()), "refused 3 at 6643\n");
+    assert_eq!(list(&[births(511), birth(0, 600), vec![9; 2000]].concat()), "refused 6 at 6643\n");
+    assert_eq!(list(&vec![9; 9216]), "refused 3 at 0\n");
+    assert_eq!(list(&vec![9; 9217]), "too long\n");
+    // The longest input that is listed: 2 births and 510 flows have 9,206 bytes.
+    let flows: Vec<u8> = (0..510).flat_map(|i| flow(0, 1, 5, 2 + i)).collect();
+    let log = [births(2), flows].concat();
+    assert_eq!(log.len(), 9206);
+    let text = list(&log);
+    assert_eq!(text.lines().count(), 512);
+    assert!(text.ends_with("1 511 flow 5 from 0 0\n"));
+    assert_eq!(list(&[log.clone(), vec![2; 10]].concat()), "too long\n");
+}

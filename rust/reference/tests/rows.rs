@@ -1,0 +1,296 @@
+//! Every row of the table with its position, and the order of the rows.
+
+mod common;
+
+use common::*;
+use reference::random::{log_with_fault, nearly_sound_log, sound_log, sound_records, Random};
+use reference::{Outcome, Written};
+
+fn log_at(log: &[u8], number: u64, position: u64) {
+    assert_eq!(reference::log(log), Written { number, position, length: 0 });
+}
+
+#[test]
+fn log_rows() {
+    let k = log_k();
+    log_at(&[], 1, 0);
+    log_at(&[k.clone(), vec![3]].concat(), 3, 62);
+    log_at(&[0], 3, 0);
+    log_at(&k[..61], 4, 44);
+    log_at(&k[..14], 4, 13);
+    log_at(&[1], 4, 0);
+    log_at(&[birth(1, 10), birth(2, 10)].concat(), 5, 13);
+    log_at(&[birth(1, 10), birth(1, 11)].concat(), 6, 13);
+    log_at(&[birth(2, 10), birth(1, 11)].concat(), 6, 13);
+    log_at(&[k.clone(), flow(3, 1, 7, 50)].concat(), 7, 62);
+    log_at(&[k.clone(), flow(1, 3, 7, 50)].concat(), 8, 62);
+    log_at(&[k.clone(), flow(1, 1, 7, 50)].concat(), 9, 62);
+}
+
+#[test]
+fn log_row_order() {
+    let k = log_k();
+    // Unknown command before cut short, cut short before all that reads operands.
+    log_at(&[birth(1, 10), vec![7]].concat(), 3, 13);
+    log_at(&[birth(1, 10), birth(1, 10)[..12].to_vec()].concat(), 4, 13);
+    // 5 before 6 to 9; 7 before 8 and 9; 8 before 9.
+    log_at(&[birth(1, 10), birth(1, 10)].concat(), 5, 13);
+    log_at(&[k.clone(), flow(9, 9, 0, 40)].concat(), 5, 62);
+    log_at(&[k.clone(), flow(9, 9, 0, 41)].concat(), 7, 62);
+    log_at(&[k.clone(), flow(9, 8, 0, 41)].concat(), 7, 62);
+    // An earlier record's fault wins.
+    log_at(&[birth(1, 10), birth(1, 11), vec![9]].concat(), 6, 13);
+    // An entity is unborn until its own birth.
+    log_at(&[birth(1, 10), flow(1, 2, 0, 11), birth(2, 12)].concat(), 8, 13);
+}
+
+#[test]
+fn least_and_greatest_values_are_sound() {
+    let log = [birth(0, 0), birth(u32::MAX, 1), flow(u32::MAX, 0, 0, u64::MAX)].concat();
+    assert_eq!(reference::log(&log), Written { number: 0, position: 0, length: 3 });
+    log_at(&[log.clone(), flow(0, u32::MAX, 0, u64::MAX)].concat(), 5, 44);
+    log_at(&[birth(u32::MAX, 0), birth(0, 1)].concat(), 6, 13);
+}
+
+#[test]
+fn generated_faults() {
+    let mut random = Random::new(3);
+    let mut seen = [0; 25];
+    for _ in 0..20_000 {
+        let fault = nearly_sound_log(&mut random, 12);
+        log_at(&fault.log, fault.number, fault.position);
+        seen[fault.number as usize] += 1;
+    }
+    for number in [1, 3, 4, 5, 6, 7, 8, 9] {
+        assert!(seen[number] > 500, "row {number} seen {} times", seen[number]);
+    }
+    for _ in 0..2_000 {
+        let log = sound_log(&mut random, 20);
+        assert_eq!(reference::log(&log).number, 0);
+    }
+    let records = sound_records(&mut random, 12);
+    assert!((0..20).any(|_| log_with_fault(&mut random, &records, 4).is_some()));
+}
+
+#[test]
+fn commitment_and_answer_rows() {
+    let k = log_k();
+    let out = |number| Written { number, position: 0, length: 0 };
+    // 11 before the log, the log before 12, 12 before 13.
+    for direction in 3..=255 {
+        assert_eq!(answer_with(ask(direction, 1, 10), &[], 0, 0).0, out(11));
+        assert_eq!(answer_with(ask(direction, 1, 10), &k, ROOM, 900).0, out(11));
+    }
+    assert_eq!(answer_with(ask(0, 1, 10), &[], 0, 0).0, out(1));
+    assert_eq!(answer_with(ask(0, 1, 10), &k, 511, 0).0, out(12));
+    assert_eq!(commit_with(&k, 511, 0).0, Outcome { number: 12, position: 0 });
+    assert_eq!(commit_with(&k, 512, 31).0, Outcome { number: 13, position: 0 });
+    assert_eq!(commit_with(&k, 512, 32).0, Outcome { number: 0, position: 0 });
+    for (q, length) in [(ask(1, 2, 35), 446), (ask(2, 1, 39), 451), (ask(0, 2, 19), 219), (ask(0, 3, 0), 65)] {
+        assert_eq!(answer_with(q, &k, 512, length - 1).0, out(13));
+        let written = answer_with(q, &k, 512, length).0;
+        assert_eq!(written, Written { number: 0, position: 0, length: length as u64 });
+    }
+}
+
+/// The proof of K's answer for 2 at 35 has 393 bytes: R 0, P 65, G 162, N 219, L 316.
+const PROOF: usize = 393;
+
+struct Case {
+    commitment: Vec<u8>,
+    proof: Vec<u8>,
+}
+
+fn backward() -> Case {
+    let bytes = answer(ask(1, 2, 35), &log_k());
+    Case { commitment: commit(&log_k()), proof: bytes[..PROOF].to_vec() }
+}
+
+/// For 2 at 20, whose version is 2 at 20.
+fn forward() -> Case {
+    let bytes = answer(ask(2, 2, 20), &log_k());
+    Case { commitment: commit(&log_k()), proof: bytes[..PROOF].to_vec() }
+}
+
+impl Case {
+    fn backward(&self, tail: &[u8]) -> reference::Checked {
+        let bytes = [&self.proof[..], tail].concat();
+        let checked = check(ask(1, 2, 35), &self.commitment, &bytes);
+        assert!(checked.number == 0 || records(ask(1, 2, 35), &self.commitment, &bytes).length == 0);
+        checked
+    }
+    fn forward(&self, tail: &[u8]) -> reference::Checked {
+        check(ask(2, 2, 20), &self.commitment, &[&self.proof[..], tail].concat())
+    }
+}
+
+fn e(entity: u32, time: u64) -> Vec<u8> {
+    record(b'E', entity, time, None, &[])
+}
+fn s(entity: u32, time: u64) -> Vec<u8> {
+    record(b'S', entity, time, None, &[])
+}
+fn t(entity: u32, time: u64, position: u32) -> Vec<u8> {
+    record(b'T', entity, time, None, &[position])
+}
+fn d(entity: u32, time: u64, kind: u8, position: u32) -> Vec<u8> {
+    record(b'D', entity, time, Some(kind), &[position])
+}
+fn v(entity: u32, time: u64, kind: u8, previous: u32, source: u32) -> Vec<u8> {
+    record(b'V', entity, time, Some(kind), &[previous, source])
+}
+
+#[test]
+fn check_11_and_14() {
+    let case = backward();
+    for direction in 3..=255 {
+        assert_eq!(check_with(ask(direction, 2, 35), &[], &[], 0), refused(11, 0));
+        assert_eq!(check(ask(direction, 2, 35), &case.commitment, &case.proof), refused(11, 0));
+    }
+    for length in (0..70).filter(|&length| length != 32) {
+        let commitment = vec![0; length];
+        for direction in 0..3 {
+            assert_eq!(check_with(ask(direction, 2, 35), &commitment, &[], 0), refused(14, 0));
+            assert_eq!(check(ask(direction, 2, 35), &commitment, &case.proof), refused(14, 0));
+        }
+    }
+    assert_eq!(check(ask(0, 2, 35), &[0; 32], &case.proof), refused(17, 0));
+}
+
+#[test]
+fn proof_strings() {
+    let case = backward();
+    let starts = [0usize, 65, 162, 219, 316, 393];
+    for pair in starts.windows(2) {
+        for place in pair[0]..pair[1] {
+            // Altered: 16 at the letter, else 17; both at the string.
+            let mut bytes = case.proof.clone();
+            bytes[place] ^= 0x20;
+            let number = if place == pair[0] { 16 } else { 17 };
+            assert_eq!(check(ask(0, 2, 35), &case.commitment, &bytes), refused(number, pair[0]));
+            // Cut: 15 at the string; a wrong letter wins over a cut string.
+            assert_eq!(check(ask(0, 2, 35), &case.commitment, &case.proof[..place]), refused(15, pair[0]));
+            let mut cut = case.proof[..place + 1].to_vec();
+            cut[pair[0]] = b'Q';
+            assert_eq!(check(ask(0, 2, 35), &case.commitment, &cut), refused(16, pair[0]));
+        }
+    }
+    let mut longer = case.proof.clone();
+    longer.push(b'B');
+    assert_eq!(check(ask(0, 2, 35), &case.commitment, &longer), refused(18, PROOF));
+    let stopped = answer(ask(0, 3, 0), &log_k());
+    assert_eq!(check(ask(1, 3, 0), &case.commitment, &[stopped, vec![0]].concat()), refused(18, 65));
+    let stopped = answer(ask(0, 2, 19), &log_k());
+    assert_eq!(check(ask(2, 2, 19), &case.commitment, &[stopped, vec![0]].concat()), refused(18, 219));
+}
+
+#[test]
+fn trace_header() {
+    let case = backward();
+    assert_eq!(case.backward(&[]), refused(15, PROOF));
+    assert_eq!(case.backward(b"F"), refused(16, PROOF));
+    assert_eq!(case.backward(b"E"), refused(16, PROOF));
+    assert_eq!(case.backward(&[b'B', 0, 0, 0]), refused(15, PROOF));
+    assert_eq!(case.backward(&[b'B', 0, 0, 0, 0]), refused(19, PROOF));
+    assert_eq!(case.backward(&[b'B', 0, 1, 0, 0]), refused(19, PROOF));
+    assert_eq!(case.backward(&[b'B', 0xff, 0xff, 0xff, 0xff]), refused(19, PROOF));
+    // 19 before 12, 12 before the records.
+    let bytes = [&case.proof[..], &[b'B', 0, 0, 0xff, 0xff]].concat();
+    assert_eq!(check_with(ask(1, 2, 35), &case.commitment, &bytes, 65_535 * 128 - 1), refused(12, 0));
+    assert_eq!(check_with(ask(1, 2, 35), &case.commitment, &bytes, 65_535 * 128), refused(15, PROOF + 5));
+    let bytes = [&case.proof[..], &[b'B', 0, 1, 0, 0]].concat();
+    assert_eq!(check_with(ask(1, 2, 35), &case.commitment, &bytes, 0), refused(19, PROOF));
+    assert_eq!(forward().forward(b"B"), refused(16, PROOF));
+}
+
+#[test]
+fn backward_records() {
+    let case = backward();
+    let first = PROOF + 5;
+    let good = trace(b'B', &[e(1, 10), e(2, 20), v(2, 30, 7, 1, 0)]);
+    assert_eq!(case.backward(&good), accepted(3, 30, 3));
+    // 15 at the record that is cut, or that is missing.
+    for cut in 5..good.len() {
+        let start = [0, 13, 26].into_iter().rev().find(|start| cut - 5 >= *start).unwrap();
+        assert_eq!(case.backward(&good[..cut]), refused(15, first + start));
+    }
+    // 16: letters of the other direction, also on a cut record.
+    for letter in (0..=255).filter(|letter| !b"EV".contains(letter)) {
+        assert_eq!(case.backward(&[b'B', 0, 0, 0, 1, letter]), refused(16, first));
+    }
+    assert_eq!(case.backward(&trace(b'B', &[e(1, 10), t(2, 20, 0)])), refused(16, first + 13));
+    // 20: a V first, either position, the record's own position; before 21.
+    assert_eq!(case.backward(&trace(b'B', &[v(2, 30, 7, 0, 0)])), refused(20, first));
+    assert_eq!(case.backward(&trace(b'B', &[e(1, 10), v(2, 30, 7, 0, 1)])), refused(20, first + 13));
+    assert_eq!(case.backward(&trace(b'B', &[e(1, 10), v(2, 30, 7, 1, 0)])), refused(20, first + 13));
+    assert_eq!(case.backward(&trace(b'B', &[e(1, 10), v(2, 30, 7, 0, u32::MAX)])), refused(20, first + 13));
+    assert_eq!(case.backward(&trace(b'B', &[e(1, 10), v(2, 10, 7, 1, 0)])), refused(20, first + 13));
+    // 21: equal and lower time; before the next record's rows.
+    assert_eq!(case.backward(&trace(b'B', &[e(1, 10), e(2, 10)])), refused(21, first + 13));
+    assert_eq!(case.backward(&trace(b'B', &[e(1, 10), e(2, 9), vec![b'X']])), refused(21, first + 13));
+    // A first record may have time 0.
+    assert_eq!(case.backward(&trace(b'B', &[e(1, 0), e(2, 0)])), refused(21, first + 13));
+}
+
+#[test]
+fn backward_ends() {
+    let case = backward();
+    let first = PROOF + 5;
+    let good = trace(b'B', &[e(1, 10), e(2, 20), v(2, 30, 7, 1, 0)]);
+    assert_eq!(case.backward(&[good.clone(), vec![0]].concat()), refused(18, PROOF + good.len()));
+    // 18 before 22, 23 and 24.
+    let idle = trace(b'B', &[e(1, 10), e(2, 20), e(3, 25), v(2, 30, 7, 1, 0)]);
+    assert_eq!(case.backward(&[idle.clone(), vec![0]].concat()), refused(18, PROOF + idle.len()));
+    // An idle record with a true digest.
+    assert_eq!(case.backward(&idle), refused(22, first + 26));
+    // The lowest of two; a record that only an idle record refers to is referred to.
+    let two = trace(b'B', &[e(0, 1), e(1, 10), e(2, 20), e(3, 25), v(2, 30, 7, 2, 1)]);
+    assert_eq!(case.backward(&two), refused(22, first));
+    let chain = trace(b'B', &[e(9, 1), e(1, 10), e(2, 20), v(9, 25, 7, 0, 1), v(2, 30, 7, 2, 1)]);
+    assert_eq!(case.backward(&chain), refused(22, first + 39));
+    // 22 before 23 before 24.
+    assert_eq!(case.backward(&trace(b'B', &[e(1, 10), e(2, 20)])), refused(22, first));
+    assert_eq!(case.backward(&trace(b'B', &[e(2, 20)])), refused(23, first));
+    assert_eq!(case.backward(&trace(b'B', &[e(1, 30)])), refused(23, first));
+    assert_eq!(case.backward(&trace(b'B', &[e(2, 31)])), refused(23, first));
+    assert_eq!(case.backward(&trace(b'B', &[e(2, 30)])), refused(24, first));
+    let wrong = trace(b'B', &[e(1, 10), e(2, 20), v(2, 30, 8, 1, 0)]);
+    assert_eq!(case.backward(&wrong), refused(24, first + 26));
+    let wrong = trace(b'B', &[e(1, 11), e(2, 20), v(2, 30, 7, 1, 0)]);
+    assert_eq!(case.backward(&wrong), refused(24, first + 26));
+    let swapped = trace(b'B', &[e(1, 10), e(2, 20), v(2, 30, 7, 0, 1)]);
+    assert_eq!(case.backward(&swapped), refused(24, first + 26));
+}
+
+#[test]
+fn forward_records() {
+    let case = forward();
+    let first = PROOF + 5;
+    let good = trace(b'F', &[s(2, 20), t(2, 30, 0), d(1, 40, 8, 1)]);
+    assert_eq!(case.forward(&good), accepted(3, 20, 3));
+    for cut in 5..good.len() {
+        let start = [0, 13, 30].into_iter().rev().find(|start| cut - 5 >= *start).unwrap();
+        assert_eq!(case.forward(&good[..cut]), refused(15, first + start));
+    }
+    // Only S first, and S only first.
+    for letter in (0..=255).filter(|letter| *letter != b'S') {
+        assert_eq!(case.forward(&[b'F', 0, 0, 0, 1, letter]), refused(16, first));
+    }
+    for letter in (0..=255).filter(|letter| !b"TDV".contains(letter)) {
+        assert_eq!(case.forward(&trace(b'F', &[s(2, 20), vec![letter]])), refused(16, first + 13));
+    }
+    assert_eq!(case.forward(&trace(b'F', &[s(2, 20), t(2, 30, 1)])), refused(20, first + 13));
+    assert_eq!(case.forward(&trace(b'F', &[s(2, 20), d(2, 30, 0, 1)])), refused(20, first + 13));
+    assert_eq!(case.forward(&trace(b'F', &[s(2, 20), v(2, 30, 0, 0, 1)])), refused(20, first + 13));
+    assert_eq!(case.forward(&trace(b'F', &[s(2, 20), v(2, 30, 0, 1, 0)])), refused(20, first + 13));
+    assert_eq!(case.forward(&trace(b'F', &[s(2, 20), t(2, 20, 0)])), refused(21, first + 13));
+    assert_eq!(case.forward(&[good.clone(), vec![0]].concat()), refused(18, PROOF + good.len()));
+    // 23 and 24 at the first record.
+    assert_eq!(case.forward(&trace(b'F', &[s(1, 20), t(2, 30, 0)])), refused(23, first));
+    assert_eq!(case.forward(&trace(b'F', &[s(2, 21), t(2, 30, 0)])), refused(23, first));
+    assert_eq!(case.forward(&trace(b'F', &[s(2, 20), t(2, 30, 0)])), refused(24, first));
+    assert_eq!(case.forward(&trace(b'F', &[s(2, 20), t(2, 30, 0), d(1, 40, 9, 1)])), refused(24, first));
+    assert_eq!(case.forward(&trace(b'F', &[s(2, 20), t(2, 30, 0), v(1, 40, 8, 0, 1)])), refused(24, first));
+    let more = trace(b'F', &[s(2, 20), t(2, 30, 0), d(1, 40, 8, 1), d(1, 41, 8, 1)]);
+    assert_eq!(case.forward(&more), refused(24, first));
+}

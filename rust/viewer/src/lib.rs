@@ -1,0 +1,36 @@
+//! Safe calls of the proved library.
+//!
+//! The exported functions have no precondition: a slice is handed over as its pointer and its length, and a shared and a mutable
+//! borrow never overlap, which is all that they rely on.
+
+/// The exported functions and the layout of their results.
+mod exported {
+    #[repr(C)]
+    pub struct Outcome {
+        pub number: u64,
+        pub position: u64,
+    }
+
+    extern "C" {
+        pub fn bozhtagul_hash(message: *const u8, message_len: usize, out: *mut u8, out_len: usize) -> Outcome;
+    }
+}
+
+/// A row of document 01's table: its number, and the byte position that it returns.
+#[derive(Clone, Copy, Debug, PartialEq, Eq)]
+pub struct Refusal {
+    pub number: u64,
+    pub position: u64,
+}
+
+fn accepted(outcome: exported::Outcome) -> Result<(), Refusal> {
+    match outcome.number {
+        0 => Ok(()),
+        number => Err(Refusal { number, position: outcome.position }),
+    }
+}
+
+/// Writes the SHA-256 of a message to the first 32 bytes of `out`. A shorter `out` is row 13, and stays as it was.
+pub fn hash(message: &[u8], out: &mut [u8]) -> Result<(), Refusal> {
+    accepted(unsafe { exported::bozhtagul_hash(message.as_ptr(), message.len(), out.as_mut_ptr(), out.len()) })
+}
