@@ -283,8 +283,8 @@ fn pad_end(b: &mut [u8; 128], m: &[u8], at: usize, n: usize, bits: u64)
     ensures { λ _. ⌜ now (b .exit) ≡ ending (part (now (m .entry)) at n) bits ++ replicate (128 - 64 * ((n + 72) / 64)) 0 ⌝ }
 {
     fields::copy(b, 0, m, at, n);
-    b[n] = 128;
     fields::put_u64(b, 64 * ((n + 72) / 64) - 8, bits);
+    b[n] = 128;
 }
 
 fn word_bytes(h: [u32; 8]) -> [u8; 32]
@@ -325,6 +325,15 @@ fn initial() -> [u32; 8]
     ]
 }
 
+// The number of bits in n bytes, modulo 2^64.
+fn in_bits(n: u64) -> u64
+    ensures { λ r. ⌜ r ≡ 8 * n % 2 ^ 64 ⌝ }
+{
+    let two = wrapping_add_u64(n, n);
+    let four = wrapping_add_u64(two, two);
+    wrapping_add_u64(four, four)
+}
+
 // The digest of a slice.
 pub fn digest(m: &[u8]) -> [u8; 32]
     ensures { λ r. ⌜ r ≡ sha256 (now (m .entry)) ⌝ }
@@ -332,7 +341,7 @@ pub fn digest(m: &[u8]) -> [u8; 32]
     let n = m.len();
     let rest = n % 64;
     let h = blocks(initial(), m, 0, n / 64);
-    closed(h, m, n - rest, rest, (n as u64) % 2305843009213693952 * 8)
+    closed(h, m, n - rest, rest, in_bits(n as u64))
 }
 
 // What `hash` answers: the digest is written, or a row of the table turns the call away.
@@ -438,5 +447,5 @@ pub fn finish(s: State) -> [u8; 32]
     let h = s.h;
     let block = s.block;
     let fill = s.fill;
-    closed(h, &block, 0, fill, s.total % 2305843009213693952 * 8)
+    closed(h, &block, 0, fill, in_bits(s.total))
 }
