@@ -4,6 +4,7 @@ mod Bits
 mod Rotations
 mod Sums
 pub mod Roots
+pub mod Computing
 mod Schedule
 mod Messages
 mod Padding

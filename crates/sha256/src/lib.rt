@@ -189,7 +189,7 @@ fn late(a: u32, e: u32) -> u32
     wrapping_add_u32(small_sigma1(a), e)
 }
 
-// Four words of the schedule at a time, which the compiler works out side by side.
+// Four words of the schedule at a time: the first parts of all four wait for none of them.
 fn four_words(w: &mut [u32; 64], t: usize)
     requires { ⌜ t + 4 ≤ 48 ⌝ }
     ensures { λ _. ⌜ ((s : List ℕ) → Scheduled s (t + 16) (now (w .entry)) → Scheduled s (t + 20) (now (w .exit))) ⌝ }

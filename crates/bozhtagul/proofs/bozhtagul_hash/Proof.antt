@@ -1,6 +1,7 @@
 use borrow.Author.Needs.{needs}
 use mathlib.Core.Path.{ap, sym, _∙_}
-use Rattle.bozhtagul.specs.Results.{hashOutcome}
+use denote.Ref.{now}
+use Rattle.bozhtagul.proofs.Hashed.{hash-outcome, hash-agrees}
 use Rattle.bozhtagul.proofs.bozhtagul_hash.Statement.{statement}
 use Rattle.bozhtagul.proofs.bozhtagul_hash.Tie as tie
 
@@ -17,19 +18,23 @@ same-length : tie.Need-same-length
 same-length c = search needs
 
 returns : tie.Need-returns
-unfolding hashOutcome
+unfolding hash-outcome
 returns c =
+    let a = c .before .before .before .before .before .before .before .before .args in
     let h = c .before .before .before .before .hash .ensures in
-    (sym (ap hashOutcome (sym (h .0) ∙ c .enum-told .given .1)), h .1)
+    let same = hash-agrees (now (a .message)) (now (a .out)) in
+    (sym (same .0 ∙ ap hash-outcome (sym (h .0) ∙ c .enum-told .given .1)), h .1 ∙ sym (same .1))
 
 same-length-2 : tie.Need-same-length-2
 same-length-2 c = search needs
 
 returns-2 : tie.Need-returns-2
-unfolding hashOutcome
+unfolding hash-outcome
 returns-2 c =
+    let a = c .before .before .before .before .before .before .before .before .before .args in
     let h = c .before .before .before .before .before .hash .ensures in
-    (sym (ap hashOutcome (sym (h .0) ∙ c .before .number .given .1)), h .1)
+    let same = hash-agrees (now (a .message)) (now (a .out)) in
+    (sym (same .0 ∙ ap hash-outcome (sym (h .0) ∙ c .before .number .given .1)), h .1 ∙ sym (same .1))
 
 pub bozhtagul-hash-spec : {M : Type 1} → statement M
 bozhtagul-hash-spec =

@@ -3,10 +3,8 @@ use native.Mathlib.Omega.{arith}
 use mathlib.Core.Path.{_≡_, refl, ap, ap₂, sym, _∙_}
 use mathlib.Core.List.{List}
 use Prim.Native.Nat.{ℕ, _-_, _%_, _≤_}
-use Rattle.fields.specs.Fields.{equal}
-use Rattle.fields.proofs.Places.{equal-true}
-use Rattle.sha256.specs.Constants.{undivided, prime, primesFrom, primes, rootFrom, root, fraction}
-use Rattle.sha256.specs.Sha256.{K, extended, schedule, rounds, sums, compress}
+use Rattle.sha256.specs.Sha256.{extended, schedule, rounds, sums, compress}
+use Rattle.sha256.proofs.Computing.{constants-are}
 use Rattle.sha256.proofs.compressed.Statement.{statement}
 use Rattle.sha256.proofs.compressed.Tie as tie
 
@@ -44,7 +42,7 @@ added-requires : tie.Need-added-requires Inv-loop μ-loop
 added-requires c κs = search needs
 
 returns : tie.Need-returns Inv-loop μ-loop
-unfolding compress schedule equal undivided prime primesFrom primes rootFrom root fraction K
+unfolding compress schedule
 returns c =
     let l = c .before .before .loop in
     let h = c .before .before .before .before .before .before .before .before .args .h in
@@ -53,7 +51,7 @@ returns c =
     ∙ ap (sums h)
     (l .inv .1 .1
     ∙ ap (λ (n : ℕ). rounds n _ (c .before .before .before .extend .last .0) h) e
-    ∙ ap₂ (λ (k w : List ℕ). rounds 64 k w h) (sym (equal-true K _ tt)) (c .before .before .before .extend .ensures ∙ ap (extended 48) (c .before .before .before .before .before .load .ensures .1)))
+    ∙ ap₂ (λ (k w : List ℕ). rounds 64 k w h) (sym constants-are) (c .before .before .before .extend .ensures ∙ ap (extended 48) (c .before .before .before .before .before .load .ensures .1)))
 
 pub compressed-spec : {M : Type 1} → statement M
 compressed-spec =

@@ -1,0 +1,455 @@
+-- Log K: its starred cases in one proved table, under the real SHA-256. Assumes nothing.
+use mathlib.Core.Path.{_≡_, refl, sym, ap, _∙_, subst}
+use Prim.Native.Nat.{ℕ, zero, suc, _+_, _-_, _≤_}
+use native.Mathlib.Omega.{arith}
+use mathlib.Core.Bool.{cond}
+use mathlib.Core.Option.{none}
+use mathlib.Core.List.{List, [], _∷_, _++_, map}
+use lib.ListN.{length, getD, length-append, set, take}
+use lib.Dec.{eqb, leb, le→leb}
+use Rattle.fields.specs.Fields.{Octets, encode, decode, part, field, equal}
+use Rattle.fields.proofs.Numbers.{octets-encode, octets-append}
+use Rattle.model.specs.Result.{Result, ok, refuse, _>>=_, need}
+use Rattle.model.specs.Numbers.{Bytes, joined}
+use Rattle.model.specs.Log.{Record, birth, flow, BIRTH, FLOW, record-limit, last-time, births}
+use Rattle.model.specs.Graph.{InEdge, temporal, dependency, VersionNode, latest-from, latest, made, grow, graph}
+use Rattle.model.specs.Digest.{letter-I, letter-O, links-string, incoming-string, outgoing-string, incoming-string-of, outgoing-string-of, incoming-strings, outgoing-strings}
+use Rattle.model.specs.Accumulator.{letter-L, letter-N, letter-G, letter-P, letter-R, branch-string, parent, doubled-below, largest-power-below, halved, tree, subtree, string-of, leaf-string, VersionLeaf, group-string, root-string, entities, leaf-at, version-leaves, of-entity, group, entity-tree, root}
+use Rattle.model.specs.Question.{backward, forward, Part, version-only, trace-of, Question, question, SearchEnd, by-entity, by-time, open-tree, open-versions, open-entities, Verdict, count}
+use Rattle.model.specs.Trace.{letter-E, letter-V, letter-S, letter-T, letter-D, refers, referred, add-ancestors, ancestors, starts-in, add-descendants, descendants, trace-versions, position-in, edges-inside, node-inside, induced-subgraph, trace, one-edge-string, record-string-by, record-string, record-strings, trace-string, letter-B, letter-F}
+use Rattle.model.specs.Answer.{proof, trace-part, answer, log-header, log-commitment, log-answer}
+use Rattle.model.specs.LogRows.{parse, above-all, latest-time, ends-rows, next-record, records-by, records-from, log-within, read-log}
+use Rattle.model.specs.CheckRows.{enough, Accepted, run-under, run, path-strings, trace-strings, hashed-in-check, check-proof, take-string, due, shown-edges, shown-record, all-below, read-record, CheckedTrace, last-shown, read-records, read-trace, referred-to, first-unreferenced, unreferenced, found-position, trace-rows, with-trace}
+use Rattle.model.specs.Calls.{records-part}
+use Rattle.model.specs.Listing.{decimal-within, decimal, line, birth-word, flow-word, from-word, refused-word, at-word, made-by, version-line, too-long, listed, listing}
+use Rattle.model.specs.Exact.{reached, SoundLog}
+use Rattle.model.proofs.Outcomes.{ok-inj, refuse≢ok, bind-eq, bind-refused, pass}
+use Rattle.model.proofs.Strings.{sum}
+use Rattle.model.proofs.Walk.{asked}
+use Rattle.model.proofs.Truth.{verdict-by}
+use Rattle.model.proofs.LogReading.{records-next}
+use Rattle.model.proofs.LogGraph.{well-formed}
+use Rattle.model.proofs.Open.{reading}
+use Rattle.model.proofs.CompletenessOverGraphs.{accepted-by, answer-run}
+use Rattle.model.proofs.RecordsPart.{part-behind}
+use Rattle.model.proofs.Widths.{proof-width, letters-of, proof-length}
+
+-- ---- opens every definition that computes, and not H
+
+unfoldable pub computed : Unit {0}
+unfolding encode decode part field need _>>=_ last-time births latest-from latest made grow graph branch-string parent doubled-below largest-power-below halved tree subtree string-of leaf-string group-string root-string entities leaf-at version-leaves of-entity group entity-tree root question by-entity by-time open-tree open-versions open-entities refers referred add-ancestors ancestors starts-in add-descendants descendants trace-versions position-in edges-inside node-inside induced-subgraph trace one-edge-string record-string-by record-string record-strings trace-string proof trace-part log-header parse above-all latest-time ends-rows next-record records-by records-from log-within read-log enough reached
+computed = tt
+
+-- ---- the logs
+
+abbrev pub record-bytes : Record → Bytes
+record-bytes (birth e t) = BIRTH ∷ joined (encode 4 e ∷ encode 8 t ∷ [])
+record-bytes (flow s d k t) = FLOW ∷ joined (encode 4 s ∷ encode 4 d ∷ encode 1 k ∷ encode 8 t ∷ [])
+
+abbrev pub log-bytes : List Record → Bytes
+log-bytes rs = joined (map record-bytes rs)
+
+record-octets : (r : Record) → Octets (record-bytes r)
+record-octets (birth e t) = Octets.more {b = BIRTH} (omega arith) (octets-append (octets-encode 4 e) (octets-append (octets-encode 8 t) Octets.none))
+record-octets (flow s d k t) =
+    Octets.more {b = FLOW} (omega arith) (octets-append (octets-encode 4 s) (octets-append (octets-encode 4 d) (octets-append (octets-encode 1 k) (octets-append (octets-encode 8 t) Octets.none))))
+
+pub log-octets : (rs : List Record) → Octets (log-bytes rs)
+log-octets [] = Octets.none
+log-octets (r ∷ rs) = octets-append (record-octets r) (log-octets rs)
+
+-- "birth 1 at 10, birth 2 at 20, flow 1 to 2 kind 7 at 30, flow 2 to 1 kind 8 at 40; 62 bytes"
+abbrev pub K : List Record
+K = birth 1 10 ∷ birth 2 20 ∷ flow 1 2 7 30 ∷ flow 2 1 8 40 ∷ []
+
+pub K-sound : SoundLog (log-bytes K) K
+unfolding computed
+K-sound = record { octets = log-octets K; reads = refl }
+
+pub K-length : length (log-bytes K) ≡ 62
+unfolding computed
+K-length = refl
+
+-- "Births 1 and 5 only"
+abbrev pub two-births : List Record
+two-births = birth 1 10 ∷ birth 5 20 ∷ []
+
+pub two-births-sound : SoundLog (log-bytes two-births) two-births
+unfolding computed
+two-births-sound = record { octets = log-octets two-births; reads = refl }
+
+-- ---- a question's answer and its check
+
+module _ (log : Bytes) (rs : List Record) (l : SoundLog log rs) (direction : ℕ) (p : Part) (s t : ℕ) (known : question direction s t ≡ ok (asked p s t)) where
+  abbrev the-end : SearchEnd VersionLeaf
+  the-end = open-entities (asked p s t) (entity-tree (graph rs)) .end
+
+  abbrev the-run : ℕ → Result Accepted
+  the-run work = run direction s t (log-commitment rs) (log-answer rs (asked p s t)) work
+
+  run-is : (work : ℕ) → the-run work
+      ≡ (enough (count (verdict-by (graph rs) p the-end)) work >>= λ _.
+      ok (accepted-by (graph rs) p (reading (proof (log-header rs) (graph rs) (asked p s t)) 0 (trace-part (graph rs) p the-end)) the-end))
+  unfolding run log-commitment log-answer log-header
+  run-is work =
+      bind-eq _ (λ q. run-under letter-R q (log-commitment rs) (log-answer rs (asked p s t)) work) (asked p s t) known
+      ∙ answer-run (log-header rs) (graph rs) (well-formed log rs l) p s t work
+
+  pub run-accepts : (work : ℕ) → enough (count (verdict-by (graph rs) p the-end)) work ≡ ok tt
+      → the-run work ≡ ok (accepted-by (graph rs) p (reading (proof (log-header rs) (graph rs) (asked p s t)) 0 (trace-part (graph rs) p the-end)) the-end)
+  run-accepts work e = run-is work ∙ bind-eq (enough (count (verdict-by (graph rs) p the-end)) work) _ tt e
+
+  pub run-refuses : (work : ℕ) → enough (count (verdict-by (graph rs) p the-end)) work ≡ refuse 12 0 → the-run work ≡ refuse 12 0
+  run-refuses work e = run-is work ∙ bind-refused (enough (count (verdict-by (graph rs) p the-end)) work) _ 12 0 e
+
+  pub answer-length : length (log-answer rs (asked p s t))
+      ≡ sum (map proof-width (letters-of (proof (log-header rs) (graph rs) (asked p s t) .opened))) + length (trace-part (graph rs) p the-end)
+  unfolding log-answer answer proof log-header
+  answer-length =
+      length-append (joined (proof (log-header rs) (graph rs) (asked p s t) .opened)) (trace-part (graph rs) p the-end)
+      ∙ ap (λ (n : ℕ). n + length (trace-part (graph rs) p the-end)) (proof-length (log-header rs) (graph rs) (well-formed log rs l) header-letter p s t)
+    where
+      header-letter : log-header rs .letter ≡ letter-R
+      header-letter = refl
+
+-- ---- cases with a trace
+
+-- Of a question by its direction: the proof's letters and the answer's length; with 384 bytes of work area the check accepts with this
+-- verdict, its records show these versions and edges, the records call returns these bytes, and
+-- beside the opened strings the check hashed strings of these letters; with 383 the check meets 12.
+pub record Traced (rs : List Record) (direction s t : ℕ) (letters : List ℕ) (long : ℕ) (v : Verdict) (records : List VersionNode) (bytes : List Bytes) (hashed : List ℕ) : Type 0 where
+  pub q : Question
+  pub known : question direction s t ≡ ok q
+  pub the-letters : letters-of (proof (log-header rs) (graph rs) q .opened) ≡ letters
+  pub the-length : length (log-answer rs q) ≡ long
+  pub run-of : Accepted
+  pub accepted : run direction s t (log-commitment rs) (log-answer rs q) 384 ≡ ok run-of
+  pub the-verdict : run-of .verdict ≡ v
+  pub the-records : run-of .records ≡ records
+  pub the-part : records-part (log-answer rs q) (run direction s t (log-commitment rs) (log-answer rs q) 384) ≡ joined bytes
+  pub the-hashed : letters-of (hashed-in-check (q .part) run-of) ≡ letters ++ hashed
+  pub too-little : run direction s t (log-commitment rs) (log-answer rs q) 383 ≡ refuse 12 0
+
+abbrev node : ℕ → ℕ → List InEdge → VersionNode
+node e t es = record { entity = e; time = t; in-edges = es }
+
+-- all five letters
+abbrev found-letters : List ℕ
+found-letters = letter-R ∷ letter-P ∷ letter-G ∷ letter-N ∷ letter-L ∷ []
+
+-- "2, 35, backward: E 1 10; E 2 20; V 2 30 kind 7, 1, 0. 446 bytes."
+abbrev backward-2-35-records : List VersionNode
+backward-2-35-records = node 1 10 [] ∷ node 2 20 [] ∷ node 2 30 (temporal 1 ∷ dependency 7 0 ∷ []) ∷ []
+
+abbrev backward-2-35-bytes : List Bytes
+backward-2-35-bytes =
+    (letter-E ∷ []) ∷ encode 4 1 ∷ encode 8 10
+    ∷ (letter-E ∷ []) ∷ encode 4 2 ∷ encode 8 20
+    ∷ (letter-V ∷ []) ∷ encode 4 2 ∷ encode 8 30 ∷ encode 1 7 ∷ encode 4 1 ∷ encode 4 0
+    ∷ []
+
+backward-2-35 : Traced K 1 2 35 found-letters 446 (Verdict.found 30 3) backward-2-35-records backward-2-35-bytes (letter-I ∷ letter-I ∷ letter-I ∷ [])
+unfolding computed log-answer answer records-part hashed-in-check trace-strings path-strings incoming-strings outgoing-strings incoming-string-of outgoing-string-of incoming-string outgoing-string links-string
+backward-2-35 =
+    let p = proof (log-header K) (graph K) (asked (trace-of backward) 2 35) in
+    let y = trace-part (graph K) (trace-of backward) (p .end) in
+    record {
+      q = asked (trace-of backward) 2 35;
+      known = refl;
+      the-letters = refl;
+      the-length = answer-length (log-bytes K) K K-sound 1 (trace-of backward) 2 35 refl ∙ refl;
+      run-of = _;
+      accepted = run-accepts (log-bytes K) K K-sound 1 (trace-of backward) 2 35 refl 384 refl;
+      the-verdict = refl;
+      the-records = refl;
+      the-part =
+          ap (records-part (log-answer K (asked (trace-of backward) 2 35))) (run-accepts (log-bytes K) K K-sound 1 (trace-of backward) 2 35 refl 384 refl)
+          ∙ part-behind (joined (p .opened)) y 5 ∙ refl;
+      the-hashed = refl;
+      too-little = run-refuses (log-bytes K) K K-sound 1 (trace-of backward) 2 35 refl 383 refl;
+    }
+
+-- "1, 39, forward: S 1 10; D 2 30 kind 7, 0; V 1 40 kind 8, 0, 1. 451 bytes."
+abbrev forward-1-39-records : List VersionNode
+forward-1-39-records = node 1 10 [] ∷ node 2 30 (dependency 7 0 ∷ []) ∷ node 1 40 (temporal 0 ∷ dependency 8 1 ∷ []) ∷ []
+
+abbrev forward-1-39-bytes : List Bytes
+forward-1-39-bytes =
+    (letter-S ∷ []) ∷ encode 4 1 ∷ encode 8 10
+    ∷ (letter-D ∷ []) ∷ encode 4 2 ∷ encode 8 30 ∷ encode 1 7 ∷ encode 4 0
+    ∷ (letter-V ∷ []) ∷ encode 4 1 ∷ encode 8 40 ∷ encode 1 8 ∷ encode 4 0 ∷ encode 4 1
+    ∷ []
+
+forward-1-39 : Traced K 2 1 39 found-letters 451 (Verdict.found 10 3) forward-1-39-records forward-1-39-bytes (letter-O ∷ letter-O ∷ letter-O ∷ [])
+unfolding computed log-answer answer records-part hashed-in-check trace-strings path-strings incoming-strings outgoing-strings incoming-string-of outgoing-string-of incoming-string outgoing-string links-string
+forward-1-39 =
+    let p = proof (log-header K) (graph K) (asked (trace-of forward) 1 39) in
+    let y = trace-part (graph K) (trace-of forward) (p .end) in
+    record {
+      q = asked (trace-of forward) 1 39;
+      known = refl;
+      the-letters = refl;
+      the-length = answer-length (log-bytes K) K K-sound 2 (trace-of forward) 1 39 refl ∙ refl;
+      run-of = _;
+      accepted = run-accepts (log-bytes K) K K-sound 2 (trace-of forward) 1 39 refl 384 refl;
+      the-verdict = refl;
+      the-records = refl;
+      the-part =
+          ap (records-part (log-answer K (asked (trace-of forward) 1 39))) (run-accepts (log-bytes K) K K-sound 2 (trace-of forward) 1 39 refl 384 refl)
+          ∙ part-behind (joined (p .opened)) y 5 ∙ refl;
+      the-hashed = refl;
+      too-little = run-refuses (log-bytes K) K K-sound 2 (trace-of forward) 1 39 refl 383 refl;
+    }
+
+-- "2, 20, forward: S 2 20; T 2 30, 0; D 1 40 kind 8, 1. 446 bytes."
+abbrev forward-2-20-records : List VersionNode
+forward-2-20-records = node 2 20 [] ∷ node 2 30 (temporal 0 ∷ []) ∷ node 1 40 (dependency 8 1 ∷ []) ∷ []
+
+abbrev forward-2-20-bytes : List Bytes
+forward-2-20-bytes =
+    (letter-S ∷ []) ∷ encode 4 2 ∷ encode 8 20
+    ∷ (letter-T ∷ []) ∷ encode 4 2 ∷ encode 8 30 ∷ encode 4 0
+    ∷ (letter-D ∷ []) ∷ encode 4 1 ∷ encode 8 40 ∷ encode 1 8 ∷ encode 4 1
+    ∷ []
+
+forward-2-20 : Traced K 2 2 20 found-letters 446 (Verdict.found 20 3) forward-2-20-records forward-2-20-bytes (letter-O ∷ letter-O ∷ letter-O ∷ [])
+unfolding computed log-answer answer records-part hashed-in-check trace-strings path-strings incoming-strings outgoing-strings incoming-string-of outgoing-string-of incoming-string outgoing-string links-string
+forward-2-20 =
+    let p = proof (log-header K) (graph K) (asked (trace-of forward) 2 20) in
+    let y = trace-part (graph K) (trace-of forward) (p .end) in
+    record {
+      q = asked (trace-of forward) 2 20;
+      known = refl;
+      the-letters = refl;
+      the-length = answer-length (log-bytes K) K K-sound 2 (trace-of forward) 2 20 refl ∙ refl;
+      run-of = _;
+      accepted = run-accepts (log-bytes K) K K-sound 2 (trace-of forward) 2 20 refl 384 refl;
+      the-verdict = refl;
+      the-records = refl;
+      the-part =
+          ap (records-part (log-answer K (asked (trace-of forward) 2 20))) (run-accepts (log-bytes K) K K-sound 2 (trace-of forward) 2 20 refl 384 refl)
+          ∙ part-behind (joined (p .opened)) y 5 ∙ refl;
+      the-hashed = refl;
+      too-little = run-refuses (log-bytes K) K K-sound 2 (trace-of forward) 2 20 refl 383 refl;
+    }
+
+-- ---- cases without a trace, in all three directions
+
+-- every known question has the form that the theorems speak of
+question-asked : (direction s t : ℕ) (q : Question) → question direction s t ≡ ok q → (p : Part) × (q ≡ asked p s t)
+unfolding question
+question-asked zero s t q e = (version-only, sym (ok-inj e))
+question-asked (suc zero) s t q e = (trace-of backward, sym (ok-inj e))
+question-asked (suc (suc zero)) s t q e = (trace-of forward, sym (ok-inj e))
+question-asked (suc (suc (suc d))) s t q e = refuse≢ok e
+
+-- whatever the direction, and with no work area
+pub record Untraced (rs : List Record) (s t : ℕ) (letters : List ℕ) (long : ℕ) (v : Verdict) (direction : ℕ) (q : Question) : Type 0 where
+  pub the-letters : letters-of (proof (log-header rs) (graph rs) q .opened) ≡ letters
+  pub the-length : length (log-answer rs q) ≡ long
+  pub run-of : Accepted
+  pub accepted : run direction s t (log-commitment rs) (log-answer rs q) 0 ≡ ok run-of
+  pub the-verdict : run-of .verdict ≡ v
+  pub no-records : run-of .records ≡ []
+
+abbrev InAllDirections : List Record → ℕ → ℕ → List ℕ → ℕ → Verdict → Type 0
+InAllDirections rs s t letters long v = (direction : ℕ) (q : Question) → question direction s t ≡ ok q → Untraced rs s t letters long v direction q
+
+-- "2, 19: not yet, 219 bytes."
+not-yet-2-19 : InAllDirections K 2 19 (letter-R ∷ letter-P ∷ letter-G ∷ []) 219 Verdict.not-yet
+unfolding computed
+not-yet-2-19 direction q known = go (question-asked direction 2 19 q known)
+  where
+    go : (p : Part) × (q ≡ asked p 2 19) → Untraced K 2 19 (letter-R ∷ letter-P ∷ letter-G ∷ []) 219 Verdict.not-yet direction q
+    go r =
+        let p = r .0 in
+        let e = known ∙ ap (λ (z : Question). ok z) (r .1) in
+        subst (Untraced K 2 19 (letter-R ∷ letter-P ∷ letter-G ∷ []) 219 Verdict.not-yet direction) (sym (r .1))
+        (record {
+          the-letters = refl;
+          the-length = answer-length (log-bytes K) K K-sound direction p 2 19 e ∙ refl;
+          run-of = _;
+          accepted = run-accepts (log-bytes K) K K-sound direction p 2 19 e 0 refl;
+          the-verdict = refl;
+          no-records = refl;
+        })
+
+-- "3 and 0: no entity, 65 bytes."
+no-entity-3 : (t : ℕ) → InAllDirections K 3 t (letter-R ∷ []) 65 Verdict.no-entity
+unfolding computed
+no-entity-3 t direction q known = go (question-asked direction 3 t q known)
+  where
+    go : (p : Part) × (q ≡ asked p 3 t) → Untraced K 3 t (letter-R ∷ []) 65 Verdict.no-entity direction q
+    go r =
+        let p = r .0 in
+        let e = known ∙ ap (λ (z : Question). ok z) (r .1) in
+        subst (Untraced K 3 t (letter-R ∷ []) 65 Verdict.no-entity direction) (sym (r .1))
+        (record {
+          the-letters = refl;
+          the-length = answer-length (log-bytes K) K K-sound direction p 3 t e ∙ refl;
+          run-of = _;
+          accepted = run-accepts (log-bytes K) K K-sound direction p 3 t e 0 refl;
+          the-verdict = refl;
+          no-records = refl;
+        })
+
+-- "3 and 0: no entity, 65 bytes."
+no-entity-0 : (t : ℕ) → InAllDirections K 0 t (letter-R ∷ []) 65 Verdict.no-entity
+unfolding computed
+no-entity-0 t direction q known = go (question-asked direction 0 t q known)
+  where
+    go : (p : Part) × (q ≡ asked p 0 t) → Untraced K 0 t (letter-R ∷ []) 65 Verdict.no-entity direction q
+    go r =
+        let p = r .0 in
+        let e = known ∙ ap (λ (z : Question). ok z) (r .1) in
+        subst (Untraced K 0 t (letter-R ∷ []) 65 Verdict.no-entity direction) (sym (r .1))
+        (record {
+          the-letters = refl;
+          the-length = answer-length (log-bytes K) K K-sound direction p 0 t e ∙ refl;
+          run-of = _;
+          accepted = run-accepts (log-bytes K) K K-sound direction p 0 t e 0 refl;
+          the-verdict = refl;
+          no-records = refl;
+        })
+
+-- "Births 1 and 5 only, asked 3: R and P, 162 bytes."
+between-births : (t : ℕ) → InAllDirections two-births 3 t (letter-R ∷ letter-P ∷ []) 162 Verdict.no-entity
+unfolding computed
+between-births t direction q known = go (question-asked direction 3 t q known)
+  where
+    go : (p : Part) × (q ≡ asked p 3 t) → Untraced two-births 3 t (letter-R ∷ letter-P ∷ []) 162 Verdict.no-entity direction q
+    go r =
+        let p = r .0 in
+        let e = known ∙ ap (λ (z : Question). ok z) (r .1) in
+        subst (Untraced two-births 3 t (letter-R ∷ letter-P ∷ []) 162 Verdict.no-entity direction) (sym (r .1))
+        (record {
+          the-letters = refl;
+          the-length = answer-length (log-bytes two-births) two-births two-births-sound direction p 3 t e ∙ refl;
+          run-of = _;
+          accepted = run-accepts (log-bytes two-births) two-births two-births-sound direction p 3 t e 0 refl;
+          the-verdict = refl;
+          no-records = refl;
+        })
+
+-- ---- logs that are turned away
+
+-- "Second time 10: 5 at 13."
+second-time : read-log (log-bytes (birth 1 10 ∷ birth 2 10 ∷ flow 1 2 7 30 ∷ flow 2 1 8 40 ∷ [])) ≡ refuse 5 13
+unfolding computed
+second-time = refl
+
+-- "K, then flow 1 to 1 kind 7 at 50: 9 at 62."
+flow-to-itself : read-log (log-bytes (K ++ (flow 1 1 7 50 ∷ []))) ≡ refuse 9 62
+unfolding computed
+flow-to-itself = refl
+
+-- "A log that begins with a flow: 7 at 0", whatever the flow's operands and whatever follows it
+flow-first : (x : Bytes) → getD x 0 0 ≡ FLOW → 18 ≤ length x → read-log x ≡ refuse 7 0
+unfolding read-log log-within next-record parse ends-rows births last-time need _>>=_
+flow-first x c h =
+    pass (leb 1 (length x)) 1 0 _ (le→leb 1 (length x) (omega arith))
+    ∙ records-next record-limit [] 0 x (omega arith)
+    ∙ bind-refused (next-record record-limit [] 0 x) _ 7 0
+    (bind-eq (parse x 0) _ _ parsed)
+  where
+    parsed : parse x 0 ≡ ok (flow (field 4 x 1) (field 4 x 5) (field 1 x 9) (field 8 x 10))
+    parsed =
+        ap (λ (b : ℕ). cond (eqb b BIRTH) (need (leb 13 (length x)) 4 0 >>= λ _. ok (birth (field 4 x 1) (field 8 x 5)))
+        (cond (eqb b FLOW) (need (leb 18 (length x)) 4 0 >>= λ _. ok (flow (field 4 x 1) (field 4 x 5) (field 1 x 9) (field 8 x 10))) (refuse 3 0))) c
+        ∙ pass (leb 18 (length x)) 4 0 _ (le→leb 18 (length x) h)
+
+-- ---- the table
+
+pub record StarredCases : Type 0 where
+  pub one : Traced K 1 2 35 found-letters 446 (Verdict.found 30 3) backward-2-35-records backward-2-35-bytes (letter-I ∷ letter-I ∷ letter-I ∷ [])
+  pub two : Traced K 2 1 39 found-letters 451 (Verdict.found 10 3) forward-1-39-records forward-1-39-bytes (letter-O ∷ letter-O ∷ letter-O ∷ [])
+  pub three : Traced K 2 2 20 found-letters 446 (Verdict.found 20 3) forward-2-20-records forward-2-20-bytes (letter-O ∷ letter-O ∷ letter-O ∷ [])
+  pub four : InAllDirections K 2 19 (letter-R ∷ letter-P ∷ letter-G ∷ []) 219 Verdict.not-yet
+  pub five : (t : ℕ) → InAllDirections K 3 t (letter-R ∷ []) 65 Verdict.no-entity
+  pub six : (t : ℕ) → InAllDirections K 0 t (letter-R ∷ []) 65 Verdict.no-entity
+  pub seven : (t : ℕ) → InAllDirections two-births 3 t (letter-R ∷ letter-P ∷ []) 162 Verdict.no-entity
+  pub eight : read-log (log-bytes (birth 1 10 ∷ birth 2 10 ∷ flow 1 2 7 30 ∷ flow 2 1 8 40 ∷ [])) ≡ refuse 5 13
+  pub nine : read-log (log-bytes (K ++ (flow 1 1 7 50 ∷ []))) ≡ refuse 9 62
+  pub ten : (x : Bytes) → getD x 0 0 ≡ FLOW → 18 ≤ length x → read-log x ≡ refuse 7 0
+
+pub starred-cases : StarredCases
+starred-cases =
+    record {
+      one = backward-2-35;
+      two = forward-1-39;
+      three = forward-2-20;
+      four = not-yet-2-19;
+      five = no-entity-3;
+      six = no-entity-0;
+      seven = between-births;
+      eight = second-time;
+      nine = flow-to-itself;
+      ten = flow-first;
+    }
+
+-- ---- rows of the log; a row that comes first wins
+
+pub rows-of-the-log :
+    (read-log [] ≡ refuse 1 0)
+    × (log-within 1 (log-bytes (birth 1 10 ∷ []) ++ (0 ∷ [])) ≡ refuse 2 13)
+    × (read-log (0 ∷ []) ≡ refuse 3 0)
+    × (read-log (BIRTH ∷ []) ≡ refuse 4 0)
+    × (read-log (log-bytes (birth 0 0 ∷ [])) ≡ ok (birth 0 0 ∷ []))
+    × (read-log (log-bytes (birth 2 10 ∷ birth 1 10 ∷ [])) ≡ refuse 5 13)
+    × (read-log (log-bytes (birth 2 10 ∷ birth 1 20 ∷ [])) ≡ refuse 6 13)
+    × (read-log (log-bytes (birth 1 10 ∷ flow 2 2 7 20 ∷ [])) ≡ refuse 7 13)
+    × (read-log (log-bytes (birth 1 10 ∷ flow 1 2 7 20 ∷ [])) ≡ refuse 8 13)
+unfolding computed
+rows-of-the-log = (refl, refl, refl, refl, refl, refl, refl, refl, refl)
+
+-- ---- rows of the check that no hash comes before, on K's first question: the trace at byte 393 of its answer
+
+abbrev first-trace : Bytes
+first-trace = letter-B ∷ joined (encode 4 3 ∷ backward-2-35-bytes)
+
+-- the trace's bytes read, and judged against a leaf 2 30
+abbrev read-first : Bytes → ℕ → Result CheckedTrace
+read-first x work = read-trace backward work 393 x
+
+abbrev judge-first : Bytes → Result Accepted
+judge-first x =
+    with-trace backward 384 (record { end = SearchEnd.no-entity; opened = []; pos = 393; rest = x })
+    (record { entity = 2; time = 30; incoming = []; outgoing = [] })
+
+pub rows-of-the-check :
+    (run 3 2 35 [] [] 0 ≡ refuse 11 0)
+    × (run 1 2 35 [] [] 0 ≡ refuse 14 0)
+    × (run 1 2 35 (encode 32 0) [] 0 ≡ refuse 15 0)
+    × (run 1 2 35 (encode 32 0) (letter-P ∷ []) 0 ≡ refuse 16 0)
+    × (run 1 2 35 (encode 32 0) (letter-R ∷ []) 0 ≡ refuse 15 0)
+    × (read-first [] 384 ≡ refuse 15 393)
+    × (read-first (set first-trace 0 letter-F) 384 ≡ refuse 16 393)
+    × (read-first (take 4 first-trace) 384 ≡ refuse 15 393)
+    × (read-first (set first-trace 4 0) 384 ≡ refuse 19 393)
+    × (read-first first-trace 383 ≡ refuse 12 0)
+    × (read-first (set first-trace 5 letter-S) 384 ≡ refuse 16 398)
+    × (read-first (set first-trace 5 letter-V) 384 ≡ refuse 20 398)
+    × (read-first (take 52 first-trace) 384 ≡ refuse 15 424)
+    × (read-first (set first-trace 48 2) 384 ≡ refuse 20 424)
+    × (read-first (set first-trace 30 10) 384 ≡ refuse 21 411)
+    × (judge-first (first-trace ++ (0 ∷ [])) ≡ refuse 18 446)
+    × (judge-first (set first-trace 52 1) ≡ refuse 22 398)
+    × (judge-first (set first-trace 43 31) ≡ refuse 23 424)
+unfolding computed run run-under check-proof take-string equal due shown-edges shown-record all-below read-record last-shown read-records read-trace referred-to first-unreferenced unreferenced found-position trace-rows with-trace
+rows-of-the-check = (refl, refl, refl, refl, refl, refl, refl, refl, refl, refl, refl, refl, refl, refl, refl, refl, refl, refl)
+
+-- what the listing program prints for K
+pub K-listing : listing (log-bytes K)
+    ≡ joined
+    (line ((49 ∷ []) ∷ (49 ∷ 48 ∷ []) ∷ birth-word ∷ [])
+    ∷ line ((50 ∷ []) ∷ (50 ∷ 48 ∷ []) ∷ birth-word ∷ [])
+    ∷ line ((50 ∷ []) ∷ (51 ∷ 48 ∷ []) ∷ flow-word ∷ (55 ∷ []) ∷ from-word ∷ (49 ∷ []) ∷ (49 ∷ 48 ∷ []) ∷ [])
+    ∷ line ((49 ∷ []) ∷ (52 ∷ 48 ∷ []) ∷ flow-word ∷ (56 ∷ []) ∷ from-word ∷ (50 ∷ []) ∷ (51 ∷ 48 ∷ []) ∷ [])
+    ∷ [])
+unfolding computed listing listed too-long version-line made-by line decimal decimal-within
+K-listing = refl
+
+-- and for a log that is turned away
+pub refused-listing : listing (log-bytes (K ++ (flow 1 1 7 50 ∷ []))) ≡ line (refused-word ∷ (57 ∷ []) ∷ at-word ∷ (54 ∷ 50 ∷ []) ∷ [])
+unfolding computed listing listed too-long version-line made-by line decimal decimal-within
+refused-listing = refl

@@ -1,0 +1,17 @@
+-- Document 01 as definitions, a module a section, in its order; `Exact` states its demand 3.
+pub mod Result
+pub mod Rows
+pub mod Numbers
+pub mod Log
+pub mod Graph
+pub mod Digest
+pub mod Accumulator
+pub mod Question
+pub mod Trace
+pub mod Answer
+pub mod LogRows
+pub mod CheckRows
+pub mod Calls
+pub mod Listing
+pub mod WellFormed
+pub mod Exact

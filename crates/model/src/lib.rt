@@ -1,0 +1,1 @@
+// No code: document 01 as definitions in specs/, and what is proved of them in proofs/.
