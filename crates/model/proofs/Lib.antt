@@ -49,5 +49,4 @@ pub mod CallLaws
 pub mod Decimal
 -- Log K
 pub mod LogK
-pub mod LogKCommitment
 pub mod Anchors

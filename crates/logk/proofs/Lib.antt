@@ -1,0 +1,2 @@
+-- Log K's commitment, computed.
+pub mod Commitment
