@@ -1,6 +1,7 @@
 //! Measuring several ways to do one thing in one run: they take turns, and what counts is the median of the ratios of a turn.
 
 pub mod openssl;
+pub mod plain;
 
 #[repr(C)]
 struct Timespec {
@@ -20,11 +21,8 @@ fn thread_time() -> f64 {
     time.seconds as f64 + time.nanoseconds as f64 * 1e-9
 }
 
-/// A way to do the work, and its name.
-pub struct Way<'a> {
-    pub name: &'a str,
-    pub work: Box<dyn FnMut() + 'a>,
-}
+/// A way to do the work.
+pub type Way<'a> = Box<dyn FnMut() + 'a>;
 
 /// What one way took.
 pub struct Measured {
@@ -47,7 +45,7 @@ pub fn measure(ways: &mut [Way], turns: usize, runs: usize) -> Vec<Measured> {
             let index = (turn + step) % ways.len();
             let start = thread_time();
             for _ in 0..runs {
-                (ways[index].work)();
+                ways[index]();
             }
             times[index].push((thread_time() - start) / runs as f64);
         }
