@@ -1,8 +1,6 @@
-//! The greatest logs: 65,535 records, one more, and the time they take.
+//! The greatest logs: 65,535 records, and one more.
 
 mod common;
-
-use std::time::{Duration, Instant};
 
 use common::*;
 use reference::log::{write, Record};
@@ -10,13 +8,6 @@ use reference::random::{overlong_log, records_of_length, Random};
 use reference::{Question, Written};
 
 const MOST: usize = 65_535;
-
-/// Only an optimized build is held to a time; it has room for a busy machine.
-fn in_time(name: &str, start: Instant) {
-    let taken = start.elapsed();
-    println!("{name}: {taken:?}");
-    assert!(cfg!(debug_assertions) || taken < Duration::from_secs(3), "{name} took {taken:?}");
-}
 
 fn births(count: usize) -> Vec<Record> {
     (0..count).map(|i| Record::Birth { entity: i as u32, time: i as u64 }).collect()
@@ -32,15 +23,11 @@ fn flows(turn: impl Fn(usize) -> (u32, u32)) -> Vec<Record> {
     records
 }
 
-fn round_trip(name: &str, log: &[u8], q: Question, count: u64) {
-    let start = Instant::now();
+fn round_trip(log: &[u8], q: Question, count: u64) {
     let (written, bytes) = answer_with(q, log, 128 * MOST, 1_500_000);
     assert_eq!(written.number, 0);
-    in_time(&format!("{name}, answer"), start);
     let (_, commitment) = commit_with(log, 128 * MOST, 32);
-    let start = Instant::now();
     let checked = check_with(q, &commitment, &bytes, 128 * MOST);
-    in_time(&format!("{name}, check of {} bytes", bytes.len()), start);
     assert_eq!((checked.number, checked.verdict, checked.count), (0, 3, count));
 }
 
@@ -62,25 +49,23 @@ fn record_65536() {
 #[test]
 fn busy_source() {
     let log = write(&flows(|_| (0, 1)));
-    round_trip("busy source, forward", &log, ask(2, 0, 0), MOST as u64 - 1);
-    round_trip("busy source, backward", &log, ask(1, 1, u64::MAX), MOST as u64);
+    round_trip(&log, ask(2, 0, 0), MOST as u64 - 1);
+    round_trip(&log, ask(1, 1, u64::MAX), MOST as u64);
 }
 
 #[test]
 fn alternating() {
     let log = write(&flows(|i| ((i & 1) as u32, (!i & 1) as u32)));
-    round_trip("alternating, forward", &log, ask(2, 0, 0), MOST as u64 - 1);
-    round_trip("alternating, backward", &log, ask(1, 1, u64::MAX), MOST as u64);
+    round_trip(&log, ask(2, 0, 0), MOST as u64 - 1);
+    round_trip(&log, ask(1, 1, u64::MAX), MOST as u64);
 }
 
 #[test]
 fn many_entities() {
     let log = write(&births(MOST));
-    round_trip("births, forward", &log, ask(2, 40_000, u64::MAX), 1);
-    let start = Instant::now();
+    round_trip(&log, ask(2, 40_000, u64::MAX), 1);
     let (outcome, _) = commit_with(&log, 128 * MOST, 32);
     assert_eq!(outcome.number, 0);
-    in_time("births, commitment", start);
     assert_eq!(commit_with(&log, 128 * MOST - 1, 32).0.number, 12);
 }
 
@@ -93,9 +78,7 @@ fn random_large() {
     let Record::Birth { entity, .. } = records[0] else { unreachable!() };
     for direction in 0..3 {
         let q = ask(direction, entity, u64::MAX);
-        let start = Instant::now();
         let (_, bytes) = answer_with(q, &log, 128 * MOST, 1_500_000);
-        in_time("random, answer", start);
         assert_eq!(bytes, first.answer(&q));
         assert_eq!(check_with(q, &first.commitment(), &bytes, 128 * MOST).verdict, 3);
     }
