@@ -1,5 +1,5 @@
 -- The hash of the crate `sha256` is document 01's call. Assumes nothing.
-use mathlib.Core.Path.{_≡_, refl, sym, ap, ap₂, _∙_}
+use mathlib.Core.Path.{_≡_, refl, ap, _∙_}
 use mathlib.Core.Bool.{Bool, true, false, cond}
 use mathlib.Core.List.{List, _++_}
 use Prim.Native.Nat.{ℕ, _+_}
@@ -12,7 +12,7 @@ use Rattle.sha256.specs.Hash.{hashResult, hashOutput}
 use Rattle.sha256.specs.declared.Hashing.{Hashing}
 use Rattle.sha256.specs.declared.Hashing.the-variants.{Written, Refused}
 use Rattle.sha256.proofs.Size.{length-sha256}
-use Rattle.model.specs.Result.{Result, ok, refuse, _>>=_, need}
+use Rattle.model.specs.Result.{ok, _>>=_, need}
 use Rattle.model.specs.Numbers.{H}
 use Rattle.model.specs.Calls.{output-after, fitting, writing, hash-call}
 use Rattle.bozhtagul.specs.declared.Outcome.{Outcome}
