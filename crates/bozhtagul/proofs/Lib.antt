@@ -1,2 +1,3 @@
 -- Laws that the proofs of the exported calls cite.
 mod Hashed
+mod LogRead

@@ -1,14 +1,23 @@
 // The public calls as the outside sees them: plain numbers and byte slices.
+use log::Reading;
 use sha256::Hashing;
 ghost use mathlib.Core.Path.{_≡_};
-ghost use Rattle.model.specs.Calls.{hash-call};
-ghost use Rattle.bozhtagul.specs.Results.{outcome};
+ghost use Rattle.model.specs.Calls.{hash-call, log-call};
+ghost use Rattle.bozhtagul.specs.Results.{outcome, written};
 
 // The number of the row that turned a call away, or 0, and its position.
 #[repr(C)]
 pub struct Outcome {
     pub number: u64,
     pub position: u64,
+}
+
+// The same, and a length or a number of records; fields that do not apply are 0.
+#[repr(C)]
+pub struct Written {
+    pub number: u64,
+    pub position: u64,
+    pub length: u64,
 }
 
 // Writes the SHA-256 of a message to the front of `out`.
@@ -25,6 +34,25 @@ pub extern "C" fn bozhtagul_hash(message: &[u8], out: &mut [u8]) -> Outcome
         Hashing::Refused { number, position } => Outcome {
             number: number,
             position: position,
+        },
+    }
+}
+
+// Reads a log; its length is its number of records.
+#[no_mangle]
+pub extern "C" fn bozhtagul_log(log: &[u8]) -> Written
+    ensures { λ r. ⌜ r ≡ written (log-call (now (log .entry))) ⌝ }
+{
+    match log::read(log) {
+        Reading::Sound { records } => Written {
+            number: 0,
+            position: 0,
+            length: records as u64,
+        },
+        Reading::Refused { number, position } => Written {
+            number: number,
+            position: position as u64,
+            length: 0,
         },
     }
 }

@@ -70,6 +70,10 @@ listing-call input out = writing length (fitting out (listing input)) out []
 
 -- ---- calls that write nothing
 
+-- "a log that none of them meets is sound": its number of records
+unfoldable pub log-call : Bytes → Result ℕ
+log-call log = read-log log >>= λ rs. ok (length rs)
+
 -- what a call returns, and the work area after it
 pub record Checked (A : Type 0) : Type 0 where
   pub result : A

@@ -11,8 +11,16 @@ mod exported {
         pub position: u64,
     }
 
+    #[repr(C)]
+    pub struct Written {
+        pub number: u64,
+        pub position: u64,
+        pub length: u64,
+    }
+
     extern "C" {
         pub fn bozhtagul_hash(message: *const u8, message_len: usize, out: *mut u8, out_len: usize) -> Outcome;
+        pub fn bozhtagul_log(log: *const u8, log_len: usize) -> Written;
     }
 }
 
@@ -30,7 +38,19 @@ fn accepted(outcome: exported::Outcome) -> Result<(), Refusal> {
     }
 }
 
+fn counted(written: exported::Written) -> Result<u64, Refusal> {
+    match written.number {
+        0 => Ok(written.length),
+        number => Err(Refusal { number, position: written.position }),
+    }
+}
+
 /// Writes the SHA-256 of a message to the first 32 bytes of `out`. A shorter `out` is row 13, and stays as it was.
 pub fn hash(message: &[u8], out: &mut [u8]) -> Result<(), Refusal> {
     accepted(unsafe { exported::bozhtagul_hash(message.as_ptr(), message.len(), out.as_mut_ptr(), out.len()) })
+}
+
+/// The number of records of a sound log; else the row of 1 to 10 that it meets.
+pub fn log(log: &[u8]) -> Result<u64, Refusal> {
+    counted(unsafe { exported::bozhtagul_log(log.as_ptr(), log.len()) })
 }

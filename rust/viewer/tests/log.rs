@@ -1,0 +1,92 @@
+//! The exported log reader against the Rust version.
+
+use reference::log::{write, Record};
+use reference::random::{self, Random};
+use viewer::Refusal;
+
+fn birth(entity: u32, time: u64) -> Record {
+    Record::Birth { entity, time }
+}
+
+fn flow(source: u32, destination: u32, kind: u8, time: u64) -> Record {
+    Record::Flow { source, destination, kind, time }
+}
+
+fn refused(number: u64, position: u64) -> Result<u64, Refusal> {
+    Err(Refusal { number, position })
+}
+
+/// What the proved library says of a log, which the Rust version must say too.
+fn read(log: &[u8]) -> Result<u64, Refusal> {
+    let expected = reference::log(log);
+    let given = viewer::log(log);
+    match expected.number {
+        0 => assert_eq!(given, Ok(expected.length)),
+        number => assert_eq!(given, refused(number, expected.position)),
+    }
+    given
+}
+
+#[test]
+fn rows_by_hand() {
+    let k = [birth(1, 10), birth(2, 20), flow(1, 2, 7, 30), flow(2, 1, 8, 40)];
+    let then = |more: &[Record]| write(&[&k[..], more].concat());
+    assert_eq!(read(&write(&k)), Ok(4));
+    assert_eq!(read(&[]), refused(1, 0));
+    assert_eq!(read(&[0]), refused(3, 0));
+    assert_eq!(read(&[&write(&k)[..], &[3]].concat()), refused(3, 62));
+    assert_eq!(read(&write(&k)[..61]), refused(4, 44));
+    assert_eq!(read(&write(&[birth(1, 10), birth(2, 10)])), refused(5, 13));
+    assert_eq!(read(&write(&[birth(1, 0)])), Ok(1));
+    assert_eq!(read(&write(&[birth(1, 0), birth(2, 0)])), refused(5, 13));
+    assert_eq!(read(&then(&[birth(2, 50)])), refused(6, 62));
+    assert_eq!(read(&then(&[birth(2, 40)])), refused(5, 62));
+    assert_eq!(read(&write(&k[2..])), refused(7, 0));
+    assert_eq!(read(&then(&[flow(3, 4, 7, 50)])), refused(7, 62));
+    assert_eq!(read(&then(&[flow(1, 4, 7, 50)])), refused(8, 62));
+    assert_eq!(read(&then(&[flow(3, 3, 7, 50)])), refused(7, 62));
+    assert_eq!(read(&then(&[flow(1, 1, 7, 50)])), refused(9, 62));
+    assert_eq!(read(&then(&[flow(1, 1, 7, 40)])), refused(5, 62));
+    assert_eq!(read(&write(&[birth(u32::MAX, u64::MAX)])), Ok(1));
+}
+
+#[test]
+fn random_and_damaged_logs() {
+    let mut random = Random::new(21);
+    let mut met = [0; 11];
+    for _ in 0..30_000 {
+        let mut log = random::sound_log(&mut random, 60);
+        if !random.once_in(4) {
+            let at = random.index(log.len());
+            match random.below(4) {
+                0 => log.truncate(at),
+                1 => log.push(1 + random.byte() % 3),
+                2 => log[at] ^= 1 << random.below(8),
+                _ => log[at] = random.byte(),
+            }
+        }
+        met[read(&log).map_or_else(|refusal| refusal.number, |_| 0) as usize] += 1;
+    }
+    for _ in 0..20_000 {
+        let fault = random::nearly_sound_log(&mut random, 60);
+        assert_eq!(read(&fault.log), refused(fault.number, fault.position));
+        met[fault.number as usize] += 1;
+    }
+    for (number, times) in met.iter().enumerate() {
+        assert_eq!(*times > 0, number != 2 && number != 10, "row {number}: {times} times");
+    }
+}
+
+#[test]
+fn the_most_records() {
+    let mut random = Random::new(22);
+    for _ in 0..3 {
+        let fault = random::overlong_log(&mut random);
+        let sound = &fault.log[..fault.position as usize];
+        assert_eq!(read(sound), Ok(65_535));
+        assert_eq!(read(&fault.log[..sound.len() + 1]), refused(2, fault.position));
+        assert_eq!(read(&fault.log), refused(2, fault.position));
+    }
+    let births: Vec<Record> = (0..65_535).map(|n| birth(n, n.into())).collect();
+    assert_eq!(read(&write(&births)), Ok(65_535));
+}
