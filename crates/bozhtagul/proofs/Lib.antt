@@ -1,3 +1,4 @@
 -- Laws that the proofs of the exported calls cite.
 mod Hashed
 mod LogRead
+mod Committed

@@ -14,7 +14,7 @@ use Rattle.bozhtagul.specs.declared.Written.{Written}
 use Rattle.bozhtagul.specs.Results.{written}
 
 unfoldable pub log-written : Reading → Written
-log-written (Sound n) = record { number = 0; position = 0; length = n }
+log-written (Sound n t) = record { number = 0; position = 0; length = n }
 log-written (Refused n p) = record { number = n; position = p; length = 0 }
 
 by-result : (r : Result (List Record)) → log-written (readingOf r) ≡ written (r >>= λ rs. ok (length rs))

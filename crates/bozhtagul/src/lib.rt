@@ -1,8 +1,9 @@
 // The public calls as the outside sees them: plain numbers and byte slices.
+use host::Committing;
 use log::Reading;
 use sha256::Hashing;
 ghost use mathlib.Core.Path.{_≡_};
-ghost use Rattle.model.specs.Calls.{hash-call, log-call};
+ghost use Rattle.model.specs.Calls.{hash-call, log-call, commitment-call};
 ghost use Rattle.bozhtagul.specs.Results.{outcome, written};
 
 // The number of the row that turned a call away, or 0, and its position.
@@ -44,7 +45,7 @@ pub extern "C" fn bozhtagul_log(log: &[u8]) -> Written
     ensures { λ r. ⌜ r ≡ written (log-call (now (log .entry))) ⌝ }
 {
     match log::read(log) {
-        Reading::Sound { records } => Written {
+        Reading::Sound { records, last } => Written {
             number: 0,
             position: 0,
             length: records as u64,
@@ -53,6 +54,25 @@ pub extern "C" fn bozhtagul_log(log: &[u8]) -> Written
             number: number,
             position: position as u64,
             length: 0,
+        },
+    }
+}
+
+// Writes a log's commitment to the front of `out`. The work area takes 128 bytes a record and is zero afterwards.
+#[no_mangle]
+pub extern "C" fn bozhtagul_commitment(log: &[u8], work: &mut [u8], out: &mut [u8]) -> Outcome
+    ensures result { λ r. ⌜ r ≡ outcome (commitment-call (now (log .entry)) (now (out .entry)) (now (work .entry)) .result) ⌝ }
+    ensures output { λ _. ⌜ now (out .exit) ≡ commitment-call (now (log .entry)) (now (out .entry)) (now (work .entry)) .output ⌝ }
+    ensures cleared { λ _. ⌜ now (work .exit) ≡ commitment-call (now (log .entry)) (now (out .entry)) (now (work .entry)) .work ⌝ }
+{
+    match host::commitment(log, work, out) {
+        Committing::Written => Outcome {
+            number: 0,
+            position: 0,
+        },
+        Committing::Refused { number, position } => Outcome {
+            number: number,
+            position: position as u64,
         },
     }
 }

@@ -2,6 +2,7 @@
 
 pub mod openssl;
 pub mod plain;
+pub mod shapes;
 
 #[repr(C)]
 struct Timespec {

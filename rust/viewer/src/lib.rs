@@ -21,6 +21,14 @@ mod exported {
     extern "C" {
         pub fn bozhtagul_hash(message: *const u8, message_len: usize, out: *mut u8, out_len: usize) -> Outcome;
         pub fn bozhtagul_log(log: *const u8, log_len: usize) -> Written;
+        pub fn bozhtagul_commitment(
+            log: *const u8,
+            log_len: usize,
+            work: *mut u8,
+            work_len: usize,
+            out: *mut u8,
+            out_len: usize,
+        ) -> Outcome;
     }
 }
 
@@ -53,4 +61,24 @@ pub fn hash(message: &[u8], out: &mut [u8]) -> Result<(), Refusal> {
 /// The number of records of a sound log; else the row of 1 to 10 that it meets.
 pub fn log(log: &[u8]) -> Result<u64, Refusal> {
     counted(unsafe { exported::bozhtagul_log(log.as_ptr(), log.len()) })
+}
+
+/// Writes a log's commitment to the first 32 bytes of `out`; else the row of 1 to 10, 12 or 13 that the call meets, and `out` stays as it
+/// was. The work area takes 128 bytes a record (`work_area`), and is all zero afterwards.
+pub fn commitment(log: &[u8], work: &mut [u8], out: &mut [u8]) -> Result<(), Refusal> {
+    accepted(unsafe {
+        exported::bozhtagul_commitment(
+            log.as_ptr(),
+            log.len(),
+            work.as_mut_ptr(),
+            work.len(),
+            out.as_mut_ptr(),
+            out.len(),
+        )
+    })
+}
+
+/// A work area for that many records.
+pub fn work_area(records: usize) -> Vec<u8> {
+    vec![0; 128 * records]
 }

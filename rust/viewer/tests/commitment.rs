@@ -1,0 +1,104 @@
+//! The exported commitment against the Rust version.
+
+use reference::log::{write, Record};
+use reference::random::{self, Random};
+use viewer::Refusal;
+
+fn birth(entity: u32, time: u64) -> Record {
+    Record::Birth { entity, time }
+}
+
+fn flow(source: u32, destination: u32, kind: u8, time: u64) -> Record {
+    Record::Flow { source, destination, kind, time }
+}
+
+/// The call with a work area and an output of the given lengths, filled with a pattern, and the same call of the Rust version: result and
+/// final memory must agree.
+fn commit(random: &mut Random, log: &[u8], work: usize, out: usize) -> (Result<(), Refusal>, Vec<u8>) {
+    let mut work = random.bytes(work);
+    let before = random.bytes(out);
+    let (mut given, mut expected, mut other) = (before.clone(), before, work.clone());
+    let result = viewer::commitment(log, &mut work, &mut given);
+    let outcome = reference::commitment(log, &mut other, &mut expected);
+    assert_eq!(result.err().map_or((0, 0), |refusal| (refusal.number, refusal.position)), (outcome.number, outcome.position));
+    assert_eq!(given, expected);
+    assert!(work.iter().all(|byte| *byte == 0), "the work area is not zero");
+    (result, given)
+}
+
+fn refused(number: u64, position: u64) -> Result<(), Refusal> {
+    Err(Refusal { number, position })
+}
+
+/// A sound log's commitment, with exactly enough memory, with more, and with too little.
+fn every_size(random: &mut Random, records: &[Record]) {
+    let log = write(records);
+    let n = 128 * records.len();
+    let (result, out) = commit(random, &log, n, 32);
+    assert_eq!(result, Ok(()));
+    let (more, longer) = commit(random, &log, n + 200, 40);
+    assert_eq!(more, Ok(()));
+    assert_eq!(longer[..32], out[..]);
+    assert_eq!(commit(random, &log, n - 1, 32).0, refused(12, 0));
+    assert_eq!(commit(random, &log, n - 1, 31).0, refused(12, 0));
+    assert_eq!(commit(random, &log, n, 31).0, refused(13, 0));
+}
+
+#[test]
+fn log_k() {
+    let k = [birth(1, 10), birth(2, 20), flow(1, 2, 7, 30), flow(2, 1, 8, 40)];
+    every_size(&mut Random::new(31), &k);
+}
+
+#[test]
+fn every_shape_of_tree() {
+    let mut random = Random::new(32);
+    for length in 1..=40 {
+        for _ in 0..20 {
+            let records = random::records_of_length(&mut random, length);
+            every_size(&mut random, &records);
+        }
+        // as many leaves in the tree of entities, and in one entity's tree
+        let births: Vec<Record> = (0..length as u32).map(|n| birth(n * 7, n.into())).collect();
+        every_size(&mut random, &births);
+        let flows = (0..length as u64).map(|n| flow(1, 2, n as u8, 2 + n));
+        let one: Vec<Record> = [birth(1, 0), birth(2, 1)].into_iter().chain(flows).collect();
+        every_size(&mut random, &one);
+    }
+}
+
+#[test]
+fn extreme_values() {
+    let mut random = Random::new(33);
+    every_size(&mut random, &[birth(0, 0)]);
+    every_size(&mut random, &[birth(u32::MAX, u64::MAX)]);
+    every_size(&mut random, &[birth(0, 0), birth(u32::MAX, 1), flow(u32::MAX, 0, 255, u64::MAX - 1), flow(0, u32::MAX, 0, u64::MAX)]);
+}
+
+#[test]
+fn random_and_damaged_logs() {
+    let mut random = Random::new(34);
+    for _ in 0..3_000 {
+        let records = random::sound_records(&mut random, 60);
+        every_size(&mut random, &records);
+        let fault = random::nearly_sound_log(&mut random, 60);
+        let (work, out) = (random.index(9_000), random.index(50));
+        assert_eq!(commit(&mut random, &fault.log, work, out).0, refused(fault.number, fault.position));
+    }
+}
+
+#[test]
+fn the_most_records() {
+    let mut random = Random::new(35);
+    let fault = random::overlong_log(&mut random);
+    assert_eq!(commit(&mut random, &fault.log, 128 * 65_536, 32).0, refused(2, fault.position));
+    let sound = &fault.log[..fault.position as usize];
+    assert_eq!(commit(&mut random, sound, 128 * 65_535, 32).0, Ok(()));
+    assert_eq!(commit(&mut random, sound, 128 * 65_535 - 1, 32).0, refused(12, 0));
+    // one source of 65,533 flows
+    let flows = (0..65_533).map(|n| flow(1, 2, n as u8, 2 + n));
+    let busy: Vec<Record> = [birth(1, 0), birth(2, 1)].into_iter().chain(flows).collect();
+    every_size(&mut random, &busy);
+    let births: Vec<Record> = (0..65_535).map(|n| birth(n, n.into())).collect();
+    every_size(&mut random, &births);
+}
