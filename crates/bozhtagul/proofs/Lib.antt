@@ -1,4 +1,5 @@
 -- Laws that the proofs of the exported calls cite.
 mod Hashed
 mod LogRead
+mod ListingText
 mod Committed

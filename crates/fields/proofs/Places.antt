@@ -2,13 +2,13 @@
 use mathlib.Core.Path.{_≡_, refl, sym, ap, ap₂, _∙_}
 use mathlib.Core.Logic.{_⊎_, inl, inr}
 use mathlib.Core.Bool.{Bool, true, false, _&&_}
-use mathlib.Core.List.{List, [], _∷_, _++_, append-assoc}
+use mathlib.Core.List.{List, [], _∷_, _++_, append-assoc, append-nil}
 use Prim.Native.Nat.{ℕ, zero, suc, _+_, _-_, _*_, _^_, _≤_, _<_}
 use native.Mathlib.Nat.{lt-of-lt-of-le, pow-le-pow-right, add-zero, zero-add, suc-add}
 use native.Mathlib.Numerals.{add-one}
 use native.Mathlib.Omega.{arith}
 use lib.Dec.{T, eqb, eqb→eq, eqb-refl, lit<}
-use lib.ListN.{length, take, drop, getD, set, length-append, length-take, length-drop, take-append-drop}
+use lib.ListN.{length, take, drop, getD, set, length-append, length-take, length-drop, take-append-drop, drop-of-length-le}
 use lib.Seq.{length-take-le, take-at, drop-at, take-append-le, drop-append-le, drop-append-add, drop-drop, take-take, take-suc, getD-drop, drop-cons, set-at, take-nil, take-add, take-all}
 use Rattle.fields.specs.Fields.{Octets, encode, decode, part, field, written, equal}
 use Rattle.fields.proofs.Numbers.{length-encode, decode-encode, decode-below, decode-snoc, octets-append}
@@ -24,7 +24,7 @@ octets-take zero o = Octets.none
 octets-take (suc w) Octets.none = Octets.none
 octets-take (suc w) (Octets.more h o) = Octets.more h (octets-take w o)
 
-octets-drop : (at : ℕ) {l : List ℕ} → Octets l → Octets (drop at l)
+pub octets-drop : (at : ℕ) {l : List ℕ} → Octets l → Octets (drop at l)
 octets-drop zero o = o
 octets-drop (suc at) Octets.none = Octets.none
 octets-drop (suc at) (Octets.more h o) = octets-drop at o
@@ -184,3 +184,83 @@ pub equal-refl : (x : List ℕ) → T (equal x x)
 unfolding equal
 equal-refl [] = tt
 equal-refl (x ∷ xs) = equal-both (eqb x x) xs (eqb-refl x) (equal-refl xs)
+
+-- a field of one byte
+pub field-byte : (l : List ℕ) (at : ℕ) → at < length l → field 1 l at ≡ getD l at 0
+unfolding field part decode
+field-byte l at h =
+    let z : field 0 l at ≡ 0 = refl in
+    let g : getD l (at + 0) 0 ≡ getD l at 0 = ap (λ (i : ℕ). getD l i 0) (add-zero at) in
+    let f : field 1 l at ≡ field 0 l at * 256 + getD l (at + 0) 0 = field-suc 0 l at (omega arith) in
+    f ∙ omega arith
+
+-- ---- parts of a part
+
+-- a part that lies within the first n bytes
+pub part-take : (n : ℕ) (x : List ℕ) (at w : ℕ) → at + w ≤ n → n ≤ length x → part (take n x) at w ≡ part x at w
+unfolding part
+part-take n x at w h k =
+    let e : x ≡ take n x ++ drop n x = sym (take-append-drop n x) in
+    let l : length (take n x) ≡ n = length-take-le n x k in
+    sym
+    (ap (λ (z : List ℕ). take w (drop at z)) e
+    ∙ ap (take w) (drop-append-le at (take n x) (drop n x) (omega arith))
+    ∙ take-append-le w (drop at (take n x)) (drop n x) (omega (arith, length-drop at (take n x))))
+
+pub field-take : (n : ℕ) (x : List ℕ) (w at : ℕ) → at + w ≤ n → n ≤ length x → field w (take n x) at ≡ field w x at
+unfolding field
+field-take n x w at h k = ap decode (part-take n x at w h k)
+
+-- a part of what is left
+pub part-drop : (n : ℕ) (x : List ℕ) (at w : ℕ) → part (drop n x) at w ≡ part x (n + at) w
+unfolding part
+part-drop n x at w = ap (take w) (drop-drop at n x)
+
+pub field-drop : (n : ℕ) (x : List ℕ) (w at : ℕ) → field w (drop n x) at ≡ field w x (n + at)
+unfolding field
+field-drop n x w at = ap decode (part-drop n x at w)
+
+-- ---- writing side by side
+
+-- a byte that is set is written
+pub set-written : (l : List ℕ) (at x : ℕ) → at < length l → set l at x ≡ written l at (x ∷ [])
+set-written l at x h = ap (λ (m : List ℕ). set m at x) (sym (written-none l (suc at))) ∙ written-cons l at [] x h
+
+-- behind what was written
+pub written-behind : (l : List ℕ) (at : ℕ) (a b : List ℕ) (m : ℕ) → at + length a ≡ m → m + length b ≤ length l
+    → written (written l at a) m b ≡ written l at (a ++ b)
+unfolding written
+written-behind l at a b m e h =
+    let n : length (take at l ++ a) ≡ m = length-append (take at l) a ∙ omega (arith, length-take-le at l (omega arith)) in
+    let p : length (a ++ b) ≡ length a + length b = length-append a b in
+    let q : m + length b ≡ at + length (a ++ b) = omega arith in
+    let front : take m (written l at a) ≡ take at l ++ a =
+    ap (λ (k : ℕ). take k (written l at a)) (sym e) ∙ take-written l at a (length a) (omega arith) refl in
+    let back : drop (m + length b) (written l at a) ≡ drop (at + length (a ++ b)) l =
+    sym (drop-drop (length b) m (written l at a))
+    ∙ ap (drop (length b))
+    (ap (drop m) (sym (append-assoc (take at l) a (drop (at + length a) l))) ∙ drop-at (take at l ++ a) (drop (at + length a) l) m n)
+    ∙ drop-drop (length b) (at + length a) l
+    ∙ ap (λ (k : ℕ). drop k l) (let z : at + length a + length b ≡ at + length (a ++ b) = omega arith in z) in
+    ap₂ (λ (x y : List ℕ). x ++ (b ++ y)) front back
+    ∙ append-assoc (take at l) a (b ++ drop (at + length (a ++ b)) l)
+    ∙ ap (λ (x : List ℕ). take at l ++ x) (sym (append-assoc a b (drop (at + length (a ++ b)) l)))
+
+-- a string written in front of others
+pub written-front : (l l1 l2 a b : List ℕ) (at m : ℕ) → l1 ≡ written l m b → l2 ≡ written l1 at a → m ≡ at + length a → m + length b ≤ length l → l2 ≡ written l at (a ++ b)
+unfolding written
+written-front l l1 l2 a b at m e1 e2 em h =
+    let n : length (take m l) ≡ m = length-take-le m l (omega arith) in
+    let p : length (a ++ b) ≡ length a + length b = length-append a b in
+    let front : take at (written l m b) ≡ take at l = take-append-le at (take m l) _ (omega arith) ∙ take-take at m l (omega arith) in
+    let back : drop (at + length a) (written l m b) ≡ b ++ drop (m + length b) l = ap (λ (k : ℕ). drop k (written l m b)) (sym em) ∙ drop-at (take m l) _ m n in
+    e2
+    ∙ ap (λ (x : List ℕ). written x at a) e1
+    ∙ ap₂ (λ (x y : List ℕ). x ++ (a ++ y)) front back
+    ∙ ap (λ (x : List ℕ). take at l ++ x) (sym (append-assoc a b (drop (m + length b) l)))
+    ∙ ap (λ (k : ℕ). take at l ++ (a ++ b ++ drop k l)) (let z : m + length b ≡ at + length (a ++ b) = omega arith in z)
+
+-- a string that fills what it is written to
+pub written-whole : (l l1 s : List ℕ) (w : ℕ) → l1 ≡ written l 0 s → length l ≡ w → length s ≡ w → l1 ≡ s
+unfolding written
+written-whole l l1 s w e n m = e ∙ ap (λ (x : List ℕ). s ++ x) (drop-of-length-le l {i = 0 + length s} (omega arith)) ∙ append-nil s

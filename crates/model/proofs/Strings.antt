@@ -6,8 +6,8 @@ use native.Mathlib.Decide.{ℕ-discrete}
 use native.Mathlib.Omega.{arith}
 use mathlib.Core.HLevel.{Discrete}
 use mathlib.Core.List.{List, [], _∷_, _++_, append-assoc, List-discrete, head-eq-of-cons-eq, tail-eq-of-cons-eq}
-use lib.ListN.{length, take, drop, getD, length-append, length-drop, take-append-drop}
-use lib.Seq.{take-at, drop-at, length-take-le, drop-drop, take-append-le, drop-append-le, take-add}
+use lib.ListN.{length, take, drop, getD, length-append}
+use lib.Seq.{take-at, drop-at, drop-drop, take-add}
 use Rattle.fields.specs.Fields.{Octets, encode, decode, part, field}
 use Rattle.fields.proofs.Numbers.{length-encode, encode-decode}
 use Rattle.fields.proofs.Places.{length-part, octets-part}
@@ -45,32 +45,6 @@ empty (b ∷ x) h = absurd (nothing h)
   where
     nothing : suc (length x) ≡ zero → ⊥
     nothing h = omega arith
-
--- ---- parts of a part
-
--- a part that lies within the first n bytes
-pub part-take : (n : ℕ) (x : Bytes) (at w : ℕ) → at + w ≤ n → n ≤ length x → part (take n x) at w ≡ part x at w
-unfolding part
-part-take n x at w h k =
-    let e : x ≡ take n x ++ drop n x = sym (take-append-drop n x) in
-    let l : length (take n x) ≡ n = length-take-le n x k in
-    sym
-    (ap (λ (z : Bytes). take w (drop at z)) e
-    ∙ ap (take w) (drop-append-le at (take n x) (drop n x) (omega arith))
-    ∙ take-append-le w (drop at (take n x)) (drop n x) (omega (arith, length-drop at (take n x))))
-
-pub field-take : (n : ℕ) (x : Bytes) (w at : ℕ) → at + w ≤ n → n ≤ length x → field w (take n x) at ≡ field w x at
-unfolding field
-field-take n x w at h k = ap decode (part-take n x at w h k)
-
--- a part of what is left
-pub part-drop : (n : ℕ) (x : Bytes) (at w : ℕ) → part (drop n x) at w ≡ part x (n + at) w
-unfolding part
-part-drop n x at w = ap (take w) (drop-drop at n x)
-
-pub field-drop : (n : ℕ) (x : Bytes) (w at : ℕ) → field w (drop n x) at ≡ field w x (n + at)
-unfolding field
-field-drop n x w at = ap decode (part-drop n x at w)
 
 -- ---- fields with their widths
 
@@ -147,8 +121,3 @@ string-again c ws (b ∷ x) o h e = ap₂ {C = Bytes} (λ (z : ℕ) (l : Bytes).
 pub octets-right : (a : Bytes) {b : Bytes} → Octets (a ++ b) → Octets b
 octets-right [] o = o
 octets-right (x ∷ a) (Octets.more h o) = octets-right a o
-
-pub octets-drop : (w : ℕ) {x : Bytes} → Octets x → Octets (drop w x)
-octets-drop zero o = o
-octets-drop (suc w) Octets.none = Octets.none
-octets-drop (suc w) (Octets.more h o) = octets-drop w o

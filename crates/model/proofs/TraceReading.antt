@@ -11,7 +11,7 @@ use lib.ListN.{length, getD, take, drop, take-append-drop, List·getD-append}
 use lib.Seq.{drop-drop}
 use lib.Dec.{T, leb, ltb, eqb, eqb→eq, leb→le, ltb→lt, lit<}
 use Rattle.fields.specs.Fields.{Octets, encode, part, field}
-use Rattle.fields.proofs.Places.{field-below}
+use Rattle.fields.proofs.Places.{field-below, octets-drop}
 use Rattle.model.specs.Result.{ok}
 use Rattle.model.specs.Numbers.{Bytes, entity-width, time-width, kind-width, count-width, joined, above}
 use Rattle.model.specs.Log.{record-limit}
@@ -21,7 +21,7 @@ use Rattle.model.specs.Question.{Way, backward, forward}
 use Rattle.model.specs.Trace.{letter-E, letter-V, letter-S, letter-T, letter-D, trace-header-width, letter-width, refers, trace-letter, entry-letter, one-edge-string, record-string-by, record-string, record-strings, trace-string}
 use Rattle.model.specs.CheckRows.{due, shown-edges, shown-record, all-below, read-record, CheckedTrace, last-shown, read-records, enough, read-trace, referred-to, first-unreferenced}
 use Rattle.model.proofs.Outcomes.{ok-inj, bind-ok, past, test, T-eq, F-eq, and-T, or-T}
-use Rattle.model.proofs.Strings.{field-again, string-again, headed, octets-drop}
+use Rattle.model.proofs.Strings.{field-again, string-again, headed}
 use Rattle.model.proofs.Lists.{_among_, Up, at-snoc, among-one, among-two}
 use Rattle.model.proofs.Match.{Regular}
 

@@ -21,6 +21,7 @@ mod exported {
     extern "C" {
         pub fn bozhtagul_hash(message: *const u8, message_len: usize, out: *mut u8, out_len: usize) -> Outcome;
         pub fn bozhtagul_log(log: *const u8, log_len: usize) -> Written;
+        pub fn bozhtagul_listing(input: *const u8, input_len: usize, out: *mut u8, out_len: usize) -> Written;
         pub fn bozhtagul_commitment(
             log: *const u8,
             log_len: usize,
@@ -61,6 +62,12 @@ pub fn hash(message: &[u8], out: &mut [u8]) -> Result<(), Refusal> {
 /// The number of records of a sound log; else the row of 1 to 10 that it meets.
 pub fn log(log: &[u8]) -> Result<u64, Refusal> {
     counted(unsafe { exported::bozhtagul_log(log.as_ptr(), log.len()) })
+}
+
+/// Writes what the listing program prints for an input to the first bytes of `out`, and gives its length. A shorter `out` is row 13, and
+/// stays as it was.
+pub fn listing(input: &[u8], out: &mut [u8]) -> Result<u64, Refusal> {
+    counted(unsafe { exported::bozhtagul_listing(input.as_ptr(), input.len(), out.as_mut_ptr(), out.len()) })
 }
 
 /// Writes a log's commitment to the first 32 bytes of `out`; else the row of 1 to 10, 12 or 13 that the call meets, and `out` stays as it

@@ -1,5 +1,6 @@
 use borrow.Author.Needs.{needs}
 use Rattle.bozhtagul.proofs.Committed.{commitment-outcome, commitment-agrees}
+use mathlib.Core.Path.{_∙_}
 use Rattle.bozhtagul.proofs.bozhtagul_commitment.Statement.{statement}
 use Rattle.bozhtagul.proofs.bozhtagul_commitment.Tie as tie
 
@@ -9,8 +10,14 @@ commitment-requires c κs = search needs
 enum-told : tie.Need-enum-told
 enum-told c = search needs
 
+row-requires : tie.Need-row-requires
+row-requires c κs = search needs
+
 enum-known-number : tie.Need-enum-known-number
 enum-known-number c = search needs
+
+row-requires-2 : tie.Need-row-requires-2
+row-requires-2 c κs = search needs
 
 same-length : tie.Need-same-length
 same-length c = search needs
@@ -21,8 +28,8 @@ same-length-2 c = search needs
 returns : tie.Need-returns
 unfolding commitment-outcome
 returns c =
-    let h = c .before .before .before .before .before .before .commitment .ensures in
-    (commitment-agrees _ _ _ (h .0) (c .enum-told .given .1), (h .1 .0, h .1 .1))
+    let h = c .before .before .before .before .before .before .before .commitment .ensures in
+    (c .row .ensures ∙ commitment-agrees _ _ _ (h .0) (c .before .enum-told .given .1), (h .1 .0, h .1 .1))
 
 same-length-3 : tie.Need-same-length-3
 same-length-3 c = search needs
@@ -33,8 +40,8 @@ same-length-4 c = search needs
 returns-2 : tie.Need-returns-2
 unfolding commitment-outcome
 returns-2 c =
-    let h = c .before .before .before .before .before .before .before .commitment .ensures in
-    (commitment-agrees _ _ _ (h .0) (c .before .number .given .1), (h .1 .0, h .1 .1))
+    let h = c .before .before .before .before .before .before .before .before .commitment .ensures in
+    (c .row2 .ensures ∙ commitment-agrees _ _ _ (h .0) (c .before .before .number .given .1), (h .1 .0, h .1 .1))
 
 pub bozhtagul-commitment-spec : {M : Type 1} → statement M
 bozhtagul-commitment-spec =
@@ -42,7 +49,9 @@ bozhtagul-commitment-spec =
     (tie.spec
     commitment-requires
     enum-told
+    row-requires
     enum-known-number
+    row-requires-2
     same-length
     same-length-2
     returns
