@@ -47,7 +47,12 @@ fn every_size(random: &mut Random, records: &[Record]) {
 #[test]
 fn log_k() {
     let k = [birth(1, 10), birth(2, 20), flow(1, 2, 7, 30), flow(2, 1, 8, 40)];
-    every_size(&mut Random::new(31), &k);
+    let mut random = Random::new(31);
+    every_size(&mut random, &k);
+    // as computed from the definitions in `crates/logk`
+    let proved = "afa480e13388337b3ec74fcea39db57dddd6320386af49166a8fbf0d6f4511e1";
+    let (_, out) = commit(&mut random, &write(&k), 4 * 128, 32);
+    assert_eq!(out.iter().map(|byte| format!("{byte:02x}")).collect::<String>(), proved);
 }
 
 #[test]
