@@ -1,0 +1,315 @@
+// Reading the proof of an answer: the strings that the walk through the two trees opens, rows 15 to 17. The answer may be any bytes.
+use log::EntityKey;
+use log::TimeKey;
+ghost use mathlib.Core.Path.{_≡_};
+ghost use Prim.Native.Nat.{_+_, _≤_};
+ghost use lib.ListN.{length, take, drop};
+ghost use Rattle.fields.specs.Fields.{part, field};
+ghost use Rattle.model.specs.Accumulator.{versions-layout, entities-layout};
+ghost use Rattle.model.specs.Question.{Question, at-or-before, by-entity, by-time};
+ghost use Rattle.model.specs.CheckRows.{subtree-in, leaf-in, check-proof};
+ghost use Rattle.proof_reader.specs.Walks.{Takes, Opens, side-of, Steps, versions-at, entities-at, ProofIs};
+
+// ---- strings
+
+// A string is there, or the row that it meets.
+enum Taking {
+    Taken,
+    Refused { number: u64 },
+}
+
+// The string of `width` bytes at a place: 15 (no byte), 16, 15 (width), 17. The digest due stands at a place of `digests`.
+fn take_string(
+    answer: &[u8],
+    at: usize,
+    letter: u8,
+    width: usize,
+    digests: &[u8],
+    due: usize,
+) -> Taking
+    requires { ⌜ (at ≤ length (now answer)) × (due + 32 ≤ length (now digests)) ⌝ }
+    ensures { λ r. ⌜ Takes (now (answer .entry)) at letter width (part (now (digests .entry)) due 32) r ⌝ }
+{
+    let left = answer.len() - at;
+    if left == 0 {
+        return Taking::Refused { number: 15 };
+    }
+    if answer[at] != letter {
+        return Taking::Refused { number: 16 };
+    }
+    if left < width {
+        return Taking::Refused { number: 15 };
+    }
+    let end = at + width;
+    let digest = sha256::digest(&answer[at..end]);
+    if fields::same(&digest, 0, digests, due, 32) {
+        return Taking::Taken;
+    }
+    Taking::Refused { number: 17 }
+}
+
+// The kind of string that was taken, or the row that it meets.
+enum Opening {
+    Leaf,
+    Inner,
+    Refused { number: u64 },
+}
+
+// Takes the string of a subtree, which is known by the 48 bytes at a place of the answer: a leaf's if its keys are equal.
+fn open(answer: &[u8], at: usize, known: usize, leaf: u8, width: usize, inner: u8) -> Opening
+    requires { ⌜ (at ≤ length (now answer)) × (known + 48 ≤ length (now answer)) ⌝ }
+    ensures { λ r. ⌜ Opens leaf width inner (now (answer .entry)) at (subtree-in (now (answer .entry)) known) r ⌝ }
+{
+    let least = fields::get_u64(answer, known);
+    let greatest = fields::get_u64(answer, known + 8);
+    if least == greatest {
+        return match take_string(answer, at, leaf, width, answer, known + 16) {
+            Taking::Taken => Opening::Leaf,
+            Taking::Refused { number } => Opening::Refused { number: number },
+        };
+    }
+    match take_string(answer, at, inner, 97, answer, known + 16) {
+        Taking::Taken => Opening::Inner,
+        Taking::Refused { number } => Opening::Refused { number: number },
+    }
+}
+
+// ---- steps
+
+// Where a known subtree stands in the answer. In the tree of entities its keys are entities, in one entity's tree they are times.
+struct EntityTreeAt(usize);
+
+struct VersionTreeAt(usize);
+
+impl EntityTreeAt {
+    fn least(self, answer: &[u8]) -> EntityKey
+        requires { ⌜ self .0 + 48 ≤ length (now answer) ⌝ }
+        ensures { λ r. ⌜ r .0 ≡ field 8 (now (answer .entry)) (self .0) ⌝ }
+    {
+        EntityKey(fields::get_u64(answer, self.0))
+    }
+
+    fn greatest(self, answer: &[u8]) -> EntityKey
+        requires { ⌜ self .0 + 48 ≤ length (now answer) ⌝ }
+        ensures { λ r. ⌜ r .0 ≡ field 8 (now (answer .entry)) (self .0 + 8) ⌝ }
+    {
+        EntityKey(fields::get_u64(answer, self.0 + 8))
+    }
+}
+
+impl VersionTreeAt {
+    fn least(self, answer: &[u8]) -> TimeKey
+        requires { ⌜ self .0 + 48 ≤ length (now answer) ⌝ }
+        ensures { λ r. ⌜ r .0 ≡ field 8 (now (answer .entry)) (self .0) ⌝ }
+    {
+        TimeKey(fields::get_u64(answer, self.0))
+    }
+}
+
+// Whether an entity lies outside the known keys.
+fn outside(answer: &[u8], tree: EntityTreeAt, entity: EntityKey) -> bool
+    requires { ⌜ tree .0 + 48 ≤ length (now answer) ⌝ }
+    ensures { λ r. ⌜ r ≡ by-entity (entity .0) .stops (subtree-in (now (answer .entry)) (tree .0)) ⌝ }
+{
+    if entity.below(tree.least(answer)) {
+        return true;
+    }
+    tree.greatest(answer).below(entity)
+}
+
+// Whether a time lies below the known keys.
+fn before(answer: &[u8], tree: VersionTreeAt, time: TimeKey) -> bool
+    requires { ⌜ tree .0 + 48 ≤ length (now answer) ⌝ }
+    ensures { λ r. ⌜ r ≡ by-time at-or-before (time .0) .stops (subtree-in (now (answer .entry)) (tree .0)) ⌝ }
+{
+    time.below(tree.least(answer))
+}
+
+// The side of the string P at a place: left if the entity is at most the left's greatest key.
+fn entity_side(answer: &[u8], at: usize, entity: EntityKey) -> EntityTreeAt
+    requires { ⌜ at + 97 ≤ length (now answer) ⌝ }
+    ensures { λ r. ⌜ r .0 ≡ side-of (by-entity (entity .0)) (now (answer .entry)) at ⌝ }
+{
+    let left = EntityTreeAt(at + 1);
+    let right = EntityTreeAt(at + 49);
+    if left.greatest(answer).below(entity) {
+        return right;
+    }
+    left
+}
+
+// The side of the string N at a place: right if the time is at least the right's least key.
+fn version_side(answer: &[u8], at: usize, time: TimeKey) -> VersionTreeAt
+    requires { ⌜ at + 97 ≤ length (now answer) ⌝ }
+    ensures { λ r. ⌜ r .0 ≡ side-of (by-time at-or-before (time .0)) (now (answer .entry)) at ⌝ }
+{
+    let left = VersionTreeAt(at + 1);
+    let right = VersionTreeAt(at + 49);
+    if time.below(right.least(answer)) {
+        return left;
+    }
+    right
+}
+
+// One step of a walk: it stops, a leaf's string was taken, or an inner one, with the subtree in which the walk goes on.
+enum Step {
+    Stops,
+    Leaf,
+    Inner { known: usize },
+    Refused { number: u64 },
+}
+
+// In the tree of entities: the string G or P.
+fn entity_step(answer: &[u8], at: usize, tree: EntityTreeAt, entity: EntityKey) -> Step
+    requires { ⌜ (at ≤ length (now answer)) × (tree .0 + 48 ≤ length (now answer)) ⌝ }
+    ensures { λ r. ⌜ Steps entities-layout (by-entity (entity .0)) (now (answer .entry)) at (tree .0) r ⌝ }
+{
+    if outside(answer, tree, entity) {
+        return Step::Stops;
+    }
+    match open(answer, at, tree.0, 0x47, 57, 0x50) {
+        Opening::Refused { number } => Step::Refused { number: number },
+        Opening::Leaf => Step::Leaf,
+        Opening::Inner => {
+            let side = entity_side(answer, at, entity);
+            Step::Inner { known: side.0 }
+        }
+    }
+}
+
+// In one entity's tree: the string L or N.
+fn version_step(answer: &[u8], at: usize, tree: VersionTreeAt, time: TimeKey) -> Step
+    requires { ⌜ (at ≤ length (now answer)) × (tree .0 + 48 ≤ length (now answer)) ⌝ }
+    ensures { λ r. ⌜ Steps versions-layout (by-time at-or-before (time .0)) (now (answer .entry)) at (tree .0) r ⌝ }
+{
+    if before(answer, tree, time) {
+        return Step::Stops;
+    }
+    match open(answer, at, tree.0, 0x4c, 77, 0x4e) {
+        Opening::Refused { number } => Step::Refused { number: number },
+        Opening::Leaf => Step::Leaf,
+        Opening::Inner => {
+            let side = version_side(answer, at, time);
+            Step::Inner { known: side.0 }
+        }
+    }
+}
+
+// ---- the walk
+
+// How a proof ends, and the byte behind its last string; `leaf` is where the string L stands. Or the row that it meets and where.
+pub enum Proof {
+    NoEntity { at: usize },
+    NotYet { at: usize },
+    Found { leaf: usize, at: usize },
+    Refused { number: u64, position: usize },
+}
+
+// The walk in one entity's tree. Its depth has no bound, so it is a loop, and so is the other.
+fn walk_versions(answer: &[u8], start: usize, root: VersionTreeAt, time: TimeKey) -> Proof
+    requires { ⌜ (start ≤ length (now answer)) × (root .0 + 48 ≤ length (now answer)) ⌝ }
+    ensures { λ r. ⌜ ProofIs (now (answer .entry)) (versions-at (time .0) (now (answer .entry)) start (root .0)) r ⌝ }
+{
+    let mut next = start;
+    let mut tree = root;
+    loop {
+        match version_step(answer, next, tree, time) {
+            Step::Stops => {
+                return Proof::NotYet { at: next };
+            }
+            Step::Refused { number } => {
+                return Proof::Refused {
+                    number: number,
+                    position: next,
+                };
+            }
+            Step::Leaf => {
+                let end = next + 77;
+                return Proof::Found {
+                    leaf: next,
+                    at: end,
+                };
+            }
+            Step::Inner { known } => {
+                tree = VersionTreeAt(known);
+                next += 97;
+            }
+        }
+    }
+}
+
+// The walk in the tree of entities, and on in the tree of the one sought.
+fn walk_entities(
+    answer: &[u8],
+    start: usize,
+    root: EntityTreeAt,
+    entity: EntityKey,
+    time: TimeKey,
+) -> Proof
+    requires { ⌜ (start ≤ length (now answer)) × (root .0 + 48 ≤ length (now answer)) ⌝ }
+    ensures { λ r. ⌜ ProofIs (now (answer .entry)) (entities-at (entity .0) (time .0) (now (answer .entry)) start (root .0)) r ⌝ }
+{
+    let mut next = start;
+    let mut tree = root;
+    loop {
+        match entity_step(answer, next, tree, entity) {
+            Step::Stops => {
+                return Proof::NoEntity { at: next };
+            }
+            Step::Refused { number } => {
+                return Proof::Refused {
+                    number: number,
+                    position: next,
+                };
+            }
+            Step::Leaf => {
+                return walk_versions(answer, next + 57, VersionTreeAt(next + 9), time);
+            }
+            Step::Inner { known } => {
+                tree = EntityTreeAt(known);
+                next += 97;
+            }
+        }
+    }
+}
+
+// The proof at a place of the answer, under a root's letter and a commitment: the string R and the walk below it.
+pub fn check_proof(
+    letter: u8,
+    entity: EntityKey,
+    time: TimeKey,
+    commitment: &[u8],
+    answer: &[u8],
+    at: usize,
+) -> Proof
+    requires { ⌜ (length (now commitment) ≡ 32) × (at ≤ length (now answer)) ⌝ }
+    ensures { λ r. ⌜ ((q : Question) → q .relation ≡ at-or-before → q .entity ≡ entity .0 → q .time ≡ time .0 → ProofIs (now (answer .entry)) (check-proof letter q (now (commitment .entry)) at (drop at (now (answer .entry)))) r) ⌝ }
+{
+    match take_string(answer, at, letter, 65, commitment, 0) {
+        Taking::Refused { number } => Proof::Refused {
+            number: number,
+            position: at,
+        },
+        Taking::Taken => {
+            let known = at + 17;
+            walk_entities(answer, at + 65, EntityTreeAt(known), entity, time)
+        }
+    }
+}
+
+// ---- the leaf found: its digests stand 13 and 45 bytes behind its first
+
+pub fn leaf_entity(answer: &[u8], leaf: usize) -> EntityKey
+    requires { ⌜ leaf + 77 ≤ length (now answer) ⌝ }
+    ensures { λ r. ⌜ r .0 ≡ leaf-in (take 77 (drop leaf (now (answer .entry)))) .entity ⌝ }
+{
+    let n = fields::get_u32(answer, leaf + 1);
+    EntityKey(n as u64)
+}
+
+pub fn leaf_time(answer: &[u8], leaf: usize) -> TimeKey
+    requires { ⌜ leaf + 77 ≤ length (now answer) ⌝ }
+    ensures { λ r. ⌜ r .0 ≡ leaf-in (take 77 (drop leaf (now (answer .entry)))) .time ⌝ }
+{
+    TimeKey(fields::get_u64(answer, leaf + 5))
+}
