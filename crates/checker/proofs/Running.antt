@@ -1,0 +1,312 @@
+-- Runs of the check: a proof's end, the trace behind it, and the calls. Assumes nothing.
+use mathlib.Core.Path.{_≡_, refl, sym, ap, ap₂, _∙_, subst}
+use mathlib.Core.List.{List, []}
+use Prim.Native.Nat.{ℕ, zero, suc, _+_, _-_, _≤_, _<_}
+use native.Mathlib.Omega.{arith}
+use borrow.Author.Tests.{eq-eqb, ne-eqb}
+use lib.ListN.{length, take, drop, length-drop, replicate}
+use Rattle.fields.specs.Fields.{Octets, part}
+use Rattle.fields.proofs.Places.{octets-drop}
+use Rattle.model.specs.Numbers.{Bytes}
+use Rattle.model.specs.Result.{Result, ok, refuse, _>>=_, need}
+use Rattle.model.specs.Accumulator.{Leaf}
+use Rattle.model.specs.Question as question
+use Rattle.model.specs.Question.{at-or-before, backward, forward, Part, version-only, trace-of, Question, question, SearchEnd, Verdict}
+use Rattle.model.specs.CheckRows.{leaf-in, CheckedProof, stopped, check-proof, read-trace, trace-rows, Accepted, end-here, with-trace, check-end, run-under, run}
+use Rattle.model.specs.Calls.{cleared, verdict-of, records-part, check-call, records-call}
+use Rattle.model.proofs.Outcomes.{bind-eq, bind-refused, ok-inj}
+use Rattle.model.proofs.TraceReading as reading
+use Rattle.log.specs.declared.TimeKey.{TimeKey}
+use Rattle.graph.specs.declared.Way.{Way}
+use Rattle.graph.specs.Table.{nodes-in}
+use Rattle.graph.proofs.Nodes.{length-nodes}
+use Rattle.proof_reader.specs.declared.Proof.{Proof}
+use Rattle.proof_reader.specs.declared.Proof.the-variants.{NoEntity as ToNoEntity, NotYet as ToNotYet, Found as ToLeaf, Refused as Unread}
+use Rattle.proof_reader.specs.Walks.{Gives, ProofIs}
+use Rattle.proof_reader.proofs.Ends.{no-entity-is, not-yet-is, found-is, refused-is, end-verdict, end-records}
+use Rattle.trace_reader.specs.declared.Trace.{Trace}
+use Rattle.trace_reader.specs.declared.Trace.the-variants.{Read, Refused as TraceRefused}
+use Rattle.trace_reader.specs.Records.{TraceIs, trace-read, trace-refused}
+use Rattle.checker.specs.declared.Checking.{Checking}
+use Rattle.checker.specs.declared.Checking.the-variants.{NoEntity, NotYet, Found, Refused}
+use Rattle.checker.specs.declared.Run.{Run}
+use Rattle.checker.specs.declared.Rows.{Rows}
+use Rattle.checker.specs.declared.Rows.the-variants.{Passed, Refused as Turned}
+use Rattle.checker.specs.Runs.{checkingOf, RunIs, bareRun, leaf-at, found-proof, rowsOf, trace-in, Traced}
+
+-- ---- runs without records
+
+module _ (answer : Bytes) (m : Result Accepted) (r : Run) where
+  pub bare-refused : (n p : ℕ) → m ≡ refuse n p → r ≡ bareRun (Refused n p) → RunIs answer m r
+  unfolding bareRun checkingOf verdict-of records-part part _>>=_
+  bare-refused n p e q = rw (e, q) (record { verdict-is = refl; records-are = refl; inside = omega arith })
+
+  bare-accepted : (v : Verdict) (opened : List Bytes)
+      → m ≡ ok (record { verdict = v; opened = opened; records = []; records-start = 0; records-length = 0 }) → r ≡ bareRun (checkingOf (ok v)) → RunIs answer m r
+  unfolding bareRun verdict-of records-part part _>>=_
+  bare-accepted v opened e q = rw (e, q) (record { verdict-is = refl; records-are = refl; inside = omega arith })
+
+-- no trace: the answer ends where the proof does
+module _ (answer : Bytes) (at : ℕ) (r : Run) (verdict : Checking) where
+  pub bytes-behind : at < length answer → r ≡ bareRun (Refused 18 at)
+      → (e : SearchEnd Leaf) (v : Verdict) → verdict ≡ checkingOf (ok v) → RunIs answer (end-here v (stopped e at (drop at answer))) r
+  unfolding end-here need _>>=_
+  bytes-behind h q e v d =
+      bare-refused answer (end-here v (stopped e at (drop at answer))) r 18 at
+      (simp (ne-eqb (length (drop at answer)) 0 (λ z. omega (arith, length-drop at answer, z)))) q
+
+  pub nothing-behind : length answer ≤ at → r ≡ bareRun verdict
+      → (e : SearchEnd Leaf) (v : Verdict) → verdict ≡ checkingOf (ok v) → RunIs answer (end-here v (stopped e at (drop at answer))) r
+  unfolding end-here need _>>=_
+  nothing-behind h q e v d =
+      bare-accepted answer (end-here v (stopped e at (drop at answer))) r v []
+      (simp (eq-eqb (length (drop at answer)) 0 (omega (arith, length-drop at answer)))) (q ∙ ap bareRun d)
+
+-- ---- the trace in the table
+
+abbrev is-passed : Rows → Type 0
+is-passed Passed = Unit {0}
+is-passed (Turned n p) = ⊥
+
+abbrev row-number : Rows → ℕ
+row-number Passed = 0
+row-number (Turned n p) = n
+
+abbrev row-position : Rows → ℕ
+row-position Passed = 0
+row-position (Turned n p) = p
+
+module _ (m : Result (Unit {0})) (r : Rows) (e : r ≡ rowsOf m) where
+  passed : r ≡ Passed → m ≡ ok tt
+  unfolding rowsOf
+  passed q = go m (sym q ∙ e)
+    where
+      go : (m : Result (Unit {0})) → Passed ≡ rowsOf m → m ≡ ok tt
+      go (ok u) h = refl
+      go (refuse n p) h = absurd (subst is-passed h tt)
+
+  turned : (n p : ℕ) → r ≡ Turned n p → m ≡ refuse n p
+  unfolding rowsOf
+  turned n p q = go m (sym q ∙ e)
+    where
+      go : (m : Result (Unit {0})) → Turned n p ≡ rowsOf m → m ≡ refuse n p
+      go (ok u) h = absurd (subst is-passed (sym h) tt)
+      go (refuse x y) h = ap₂ (λ (a b : ℕ). refuse a b) (sym (ap row-number h)) (sym (ap row-position h))
+
+module _ (way : question.Way) (answer work : Bytes) (leaf at n end : ℕ) (rows : Rows)
+    (e : rows ≡ rowsOf (trace-rows way (leaf-at answer leaf) (trace-in answer work at n end))) where
+  pub rows-refused : (x y : ℕ) (r : Run) → rows ≡ Turned x y → r ≡ bareRun (Refused x y)
+      → (size : ℕ) → Traced way size answer at work n end → RunIs answer (with-trace way size (found-proof answer leaf at) (leaf-at answer leaf)) r
+  unfolding with-trace found-proof
+  rows-refused x y r q b size t =
+      bare-refused answer (with-trace way size (found-proof answer leaf at) (leaf-at answer leaf)) r x y
+      (bind-eq (read-trace way size at (drop at answer)) _ (trace-in answer work at n end) (t .is)
+      ∙ bind-refused (trace-rows way (leaf-at answer leaf) (trace-in answer work at n end)) _ x y (turned _ rows e x y q)) b
+
+  pub rows-passed : (time : TimeKey) → rows ≡ Passed → time .0 ≡ leaf-in (take 77 (drop leaf answer)) .time → at + 5 ≤ length answer
+      → (size : ℕ) → Traced way size answer at work n end
+      → RunIs answer (with-trace way size (found-proof answer leaf at) (leaf-at answer leaf))
+      (record { verdict = Found time n; start = at + 5; length = length answer - at - 5 })
+  unfolding with-trace found-proof trace-in verdict-of records-part checkingOf leaf-at _>>=_
+  rows-passed time q k h size t =
+      let l = leaf-at answer leaf in
+      let d : length (drop at answer) ≡ length answer - at = length-drop at answer in
+      let w : with-trace way size (found-proof answer leaf at) l
+      ≡ ok (record {
+        verdict = Verdict.found (l .time) (length (nodes-in work n));
+        opened = [];
+        records = nodes-in work n;
+        records-start = at + 5;
+        records-length = length (drop at answer) - 5;
+      }) =
+      bind-eq (read-trace way size at (drop at answer)) _ (trace-in answer work at n end) (t .is)
+      ∙ bind-eq (trace-rows way l (trace-in answer work at n end)) _ tt (passed _ rows e q) in
+      record {
+        verdict-is = ap₂ (λ (a b : ℕ). Found (record { 0 = a }) b) k (sym (length-nodes work n)) ∙ sym (ap (λ (m : Result Accepted). checkingOf (verdict-of m)) w);
+        records-are = ap (λ (x : ℕ). part answer (at + 5) (x - 5)) (sym d) ∙ sym (ap (records-part answer) w);
+        inside = omega arith;
+      }
+
+-- ---- the trace read
+
+module _ (way : question.Way) (size : ℕ) (answer : Bytes) (at : ℕ) (work : Bytes) (r : Trace) (T : TraceIs way size answer at work r) where
+  trace-is : (x : Trace) → r ≡ x → TraceIs way size answer at work x
+  trace-is x q = subst (λ (y : Trace). TraceIs way size answer at work y) q T
+
+  pub trace-told : (n end : ℕ) → r ≡ Read n end → Octets answer → size ≤ length work → Traced way size answer at work n end
+  unfolding trace-in
+  trace-told n end q o s = go (trace-is (Read n end) q)
+    where
+      go : TraceIs way size answer at work (Read n end) → Traced way size answer at work n end
+      go (trace-read _ _ c t) =
+          record {
+            is = t .is;
+            inside = t .inside;
+            header = c .inside;
+            some-record = c .some-record;
+            ready =
+                record {
+                  room = omega (arith, c .room);
+                  few = c .few;
+                  ordered = record { down = reading.trace-read way size at (drop at answer) _ (octets-drop at o) (t .is) .good .below };
+                };
+          }
+
+  pub trace-turned : (leaf n p : ℕ) (run : Run) → r ≡ TraceRefused n p → run ≡ bareRun (Refused n p)
+      → RunIs answer (with-trace way size (found-proof answer leaf at) (leaf-at answer leaf)) run
+  unfolding with-trace found-proof
+  trace-turned leaf n p run q b =
+      bare-refused answer (with-trace way size (found-proof answer leaf at) (leaf-at answer leaf)) run n p
+      (bind-refused (read-trace way size at (drop at answer)) _ n p (go (trace-is (TraceRefused n p) q))) b
+    where
+      go : TraceIs way size answer at work (TraceRefused n p) → read-trace way size at (drop at answer) ≡ refuse n p
+      go (trace-refused _ _ e) = e
+
+-- ---- by the direction
+
+-- the part that a direction asks for
+module _ (s t : ℕ) (q : Question) where
+  part-0 : question 0 s t ≡ ok q → q .part ≡ version-only
+  unfolding question
+  part-0 e = sym (ap (λ (x : Question). x .part) (ok-inj e))
+
+  part-1 : question 1 s t ≡ ok q → q .part ≡ trace-of backward
+  unfolding question
+  part-1 e = sym (ap (λ (x : Question). x .part) (ok-inj e))
+
+  part-2 : question 2 s t ≡ ok q → q .part ≡ trace-of forward
+  unfolding question
+  part-2 e = sym (ap (λ (x : Question). x .part) (ok-inj e))
+
+module _ (answer : Bytes) (leaf at size direction : ℕ) (r : Run) (s t : ℕ) (q : Question) (known : question direction s t ≡ ok q) where
+  abbrev here : Part → Result Accepted
+  here p = check-end p size (found-proof answer leaf at) (SearchEnd.found (leaf-at answer leaf))
+
+  asked : (d : ℕ) → direction ≡ d → question d s t ≡ ok q
+  asked d e = subst (λ (x : ℕ). question x s t ≡ ok q) e known
+
+  pub found-only : (time : TimeKey) → direction ≡ 0 → time .0 ≡ leaf-in (take 77 (drop leaf answer)) .time
+      → ((e : SearchEnd Leaf) (v : Verdict) → Found time 0 ≡ checkingOf (ok v) → RunIs answer (end-here v (stopped e at (drop at answer))) r)
+      → RunIs answer (here (q .part)) r
+  unfolding check-end found-proof checkingOf leaf-at
+  found-only time e k f =
+      subst (λ (p : Part). RunIs answer (here p) r) (sym (part-0 s t q (asked 0 e)))
+      (f (SearchEnd.found (leaf-at answer leaf)) (Verdict.found (leaf-at answer leaf .time) 0) (ap (λ (x : ℕ). Found (record { 0 = x }) 0) k))
+
+  pub found-back : direction ≡ 1 → RunIs answer (with-trace backward size (found-proof answer leaf at) (leaf-at answer leaf)) r → RunIs answer (here (q .part)) r
+  unfolding check-end
+  found-back e f = subst (λ (p : Part). RunIs answer (here p) r) (sym (part-1 s t q (asked 1 e))) f
+
+  pub found-fore : direction ≤ 2 → (direction ≡ 0 → ⊥) → (direction ≡ 1 → ⊥)
+      → RunIs answer (with-trace forward size (found-proof answer leaf at) (leaf-at answer leaf)) r → RunIs answer (here (q .part)) r
+  unfolding check-end
+  found-fore h a b f = subst (λ (p : Part). RunIs answer (here p) r) (sym (part-2 s t q (asked 2 (omega arith)))) f
+
+-- ---- the whole run
+
+-- a direction that row 11 lets pass asks a question
+record Known (direction s t : ℕ) : Type 0 where
+  q : Question
+  is : question direction s t ≡ ok q
+  relation-is : q .relation ≡ at-or-before
+  entity-is : q .entity ≡ s
+  time-is : q .time ≡ t
+
+known-by : (direction s t : ℕ) → direction ≤ 2 → Known direction s t
+unfolding question
+known-by zero s t h = record { q = _; is = refl; relation-is = refl; entity-is = refl; time-is = refl }
+known-by (suc zero) s t h = record { q = _; is = refl; relation-is = refl; entity-is = refl; time-is = refl }
+known-by (suc (suc zero)) s t h = record { q = _; is = refl; relation-is = refl; entity-is = refl; time-is = refl }
+known-by (suc (suc (suc d))) s t h = absurd (let z : ⊥ = omega arith in z)
+
+unknown : (direction s t : ℕ) → 2 < direction → question direction s t ≡ refuse 11 0
+unfolding question
+unknown zero s t h = absurd (let z : ⊥ = omega arith in z)
+unknown (suc zero) s t h = absurd (let z : ⊥ = omega arith in z)
+unknown (suc (suc zero)) s t h = absurd (let z : ⊥ = omega arith in z)
+unknown (suc (suc (suc d))) s t h = refl
+
+-- its proof, as it was read
+module _ (direction s t : ℕ) (few : direction ≤ 2) (commitment answer : Bytes) (p : Proof)
+    (P : (q : Question) → q .relation ≡ at-or-before → q .entity ≡ s → q .time ≡ t → ProofIs answer (check-proof 0x52 q commitment 0 (drop 0 answer)) p) where
+  k : Known direction s t
+  k = known-by direction s t few
+
+  m : Result CheckedProof
+  m = check-proof 0x52 (k .q) commitment 0 answer
+
+  M : ProofIs answer m p
+  unfolding m
+  M = P (k .q) (k .relation-is) (k .entity-is) (k .time-is)
+
+  pub leaf-inside : (leaf at : ℕ) → p ≡ ToLeaf leaf at → (leaf + 77 ≤ length answer) × (at ≤ length answer)
+  leaf-inside leaf at e = let g = found-is answer m p M leaf at e in let i = g .1 .inside in (omega (arith, g .0), i)
+
+  pub no-entity-inside : (at : ℕ) → p ≡ ToNoEntity at → at ≤ length answer
+  no-entity-inside at e = no-entity-is answer m p M at e .inside
+
+  pub not-yet-inside : (at : ℕ) → p ≡ ToNotYet at → at ≤ length answer
+  not-yet-inside at e = not-yet-is answer m p M at e .inside
+
+  module _ (size : ℕ) (r : Run) (wide : length commitment ≡ 32) where
+    abbrev this-run : Result Accepted
+    this-run = run direction s t commitment answer size
+
+    by-proof : this-run ≡ (m >>= λ (p : CheckedProof). check-end (k .q .part) size p (p .end))
+    unfolding run run-under m need _>>=_
+    by-proof = bind-eq (question direction s t) _ (k .q) (k .is) ∙ simp (eq-eqb (length commitment) 32 wide)
+
+    pub proof-refused : (x y : ℕ) → p ≡ Unread x y → r ≡ bareRun (Refused x y) → RunIs answer this-run r
+    proof-refused x y e q = bare-refused answer this-run r x y (by-proof ∙ bind-refused m _ x y (refused-is answer m p M x y e)) q
+
+    -- what follows a proof depends on its end alone
+    at-end : (e : SearchEnd Leaf) (at : ℕ) → Gives answer m e at → RunIs answer (check-end (k .q .part) size (stopped e at (drop at answer)) e) r → RunIs answer this-run r
+    at-end e at g i =
+        record {
+          verdict-is = i .verdict-is ∙ ap checkingOf (sym (end-verdict answer m e at g (k .q .part) size) ∙ sym (ap verdict-of by-proof));
+          records-are = i .records-are ∙ sym (end-records answer m e at g (k .q .part) size) ∙ sym (ap (records-part answer) by-proof);
+          inside = i .inside;
+        }
+
+    pub to-no-entity : (at : ℕ) → p ≡ ToNoEntity at
+        → ((e : SearchEnd Leaf) (v : Verdict) → NoEntity ≡ checkingOf (ok v) → RunIs answer (end-here v (stopped e at (drop at answer))) r) → RunIs answer this-run r
+    unfolding check-end checkingOf
+    to-no-entity at e f = at-end SearchEnd.no-entity at (no-entity-is answer m p M at e) (f SearchEnd.no-entity Verdict.no-entity refl)
+
+    pub to-not-yet : (at : ℕ) → p ≡ ToNotYet at
+        → ((e : SearchEnd Leaf) (v : Verdict) → NotYet ≡ checkingOf (ok v) → RunIs answer (end-here v (stopped e at (drop at answer))) r) → RunIs answer this-run r
+    unfolding check-end checkingOf
+    to-not-yet at e f = at-end SearchEnd.not-yet at (not-yet-is answer m p M at e) (f SearchEnd.not-yet Verdict.not-yet refl)
+
+    pub to-leaf : (leaf at : ℕ) → p ≡ ToLeaf leaf at
+        → ((s t : ℕ) (q : Question) → question direction s t ≡ ok q
+        → RunIs answer (check-end (q .part) size (found-proof answer leaf at) (SearchEnd.found (leaf-at answer leaf))) r) → RunIs answer this-run r
+    unfolding found-proof leaf-at
+    to-leaf leaf at e f = at-end (SearchEnd.found (leaf-at answer leaf)) at (found-is answer m p M leaf at e .1) (f s t (k .q) (k .is))
+
+-- or a row before it
+module _ (direction s t : ℕ) (commitment answer : Bytes) (size : ℕ) (r : Run) where
+  pub direction-refused : 2 < direction → r ≡ bareRun (Refused 11 0) → RunIs answer (run direction s t commitment answer size) r
+  unfolding run
+  direction-refused h q =
+      bare-refused answer (run direction s t commitment answer size) r 11 0 (bind-refused (question direction s t) _ 11 0 (unknown direction s t h)) q
+
+  pub commitment-refused : direction ≤ 2 → (length commitment ≡ 32 → ⊥) → r ≡ bareRun (Refused 14 0) → RunIs answer (run direction s t commitment answer size) r
+  unfolding run run-under need _>>=_
+  commitment-refused few d q =
+      let k = known-by direction s t few in
+      bare-refused answer (run direction s t commitment answer size) r 14 0
+      (bind-eq (question direction s t) _ (k .q) (k .is) ∙ simp (ne-eqb (length commitment) 32 d)) q
+
+-- ---- the calls
+
+module _ (direction s t : ℕ) (commitment answer work w1 w2 : Bytes) (r : Run) (R : RunIs answer (run direction s t commitment answer (length work)) r)
+    (e : length w1 ≡ length work) (z : w2 ≡ replicate (length w1) 0) where
+  pub checked : (r .verdict ≡ checkingOf (check-call direction s t commitment answer work .result)) × (w2 ≡ check-call direction s t commitment answer work .work)
+  unfolding check-call cleared
+  checked = (R .verdict-is, z ∙ ap (λ (n : ℕ). replicate n 0) e)
+
+  pub parted : (x : Bytes) → x ≡ take (r .start + r .length - r .start) (drop (r .start) answer)
+      → (x ≡ records-call direction s t commitment answer work .result) × (w2 ≡ records-call direction s t commitment answer work .work)
+  unfolding records-call cleared part
+  parted x q = (q ∙ ap (λ (n : ℕ). take n (drop (r .start) answer)) (let k : r .start + r .length - r .start ≡ r .length = omega arith in k) ∙ R .records-are, z ∙ ap (λ (n : ℕ). replicate n 0) e)

@@ -1,0 +1,368 @@
+// The calls of the checker: whether an answer, which may be any bytes, is the true one under a commitment.
+use graph::Way;
+use log::EntityKey;
+use log::TimeKey;
+use proof_reader::Proof;
+use trace_reader::Trace;
+ghost use mathlib.Core.Path.{_≡_};
+ghost use mathlib.Core.Bool.{cond, _&&_};
+ghost use mathlib.Core.List.{List, []};
+ghost use Prim.Native.Nat.{ℕ, _+_, _*_, _^_, _≤_, _<_};
+ghost use lib.Dec.{eqb};
+ghost use lib.ListN.{length, getD, drop};
+ghost use Rattle.fields.specs.Fields.{equal};
+ghost use Rattle.model.specs.Result.{ok};
+ghost use Rattle.model.specs.Graph.{VersionNode};
+ghost use Rattle.model.specs.Question.{backward, Question, question, SearchEnd, Verdict};
+ghost use Rattle.model.specs.CheckRows.{stopped, found-position, path-digests, leaf-digest, trace-rows, end-here, with-trace, check-end, run};
+ghost use Rattle.model.specs.Calls.{check-call, records-call};
+ghost use Rattle.graph.specs.Ways.{wayOf};
+ghost use Rattle.graph.specs.Table.{node-in, nodes-in, Ready};
+ghost use Rattle.marks.specs.Marks.{marked-in};
+ghost use Rattle.trace_reader.specs.Records.{place-in, places-in};
+ghost use Rattle.checker.specs.Runs.{checkingOf, RunIs, bareRun, leaf-at, found-proof, rowsOf, Lowest, digest-column, PathDigests, trace-in, found-rows, Traced};
+
+// The verdict of a check, or the row that turned it away and where.
+pub enum Checking {
+    NoEntity,
+    NotYet,
+    Found { time: TimeKey, count: usize },
+    Refused { number: u64, position: usize },
+}
+
+// ---- row 22
+
+// i if its slot has no mark, else the lowest so far.
+fn lower(work: &[u8], i: usize, lowest: usize) -> usize
+    requires { ⌜ 128 * i + 128 ≤ length (now work) ⌝ }
+    ensures { λ r. ⌜ r ≡ cond (marked-in (now (work .entry)) i) lowest i ⌝ }
+{
+    if marks::marked(work, i) {
+        return lowest;
+    }
+    i
+}
+
+// The lowest record but the last to which none refers, or n. From the last to the first, each record marks those to which it refers:
+// so a mark tells whether a later one refers to a record.
+fn lowest_unreferenced(work: &mut [u8], n: usize) -> usize
+    requires { ⌜ Ready (now work) n × (0 < n) ⌝ }
+    ensures { λ r. ⌜ Lowest backward (now (work .entry)) (now (work .exit)) n r ⌝ }
+{
+    marks::clear_marks(work, n);
+    let mut i = n - 1;
+    let mut lowest = n;
+    marks::mark_starts(work, i);
+    while i > 0 {
+        i -= 1;
+        lowest = lower(work, i, lowest);
+        marks::mark_starts(work, i);
+    }
+    lowest
+}
+
+// Row 22 is backward's alone.
+fn unreferenced(way: Way, work: &mut [u8], n: usize) -> usize
+    requires { ⌜ Ready (now work) n × (0 < n) ⌝ }
+    ensures { λ r. ⌜ Lowest (wayOf way) (now (work .entry)) (now (work .exit)) n r ⌝ }
+{
+    match way {
+        Way::Backward => lowest_unreferenced(work, n),
+        Way::Forward => n,
+    }
+}
+
+// ---- rows 23 and 24
+
+// The found version's record: the last in B, the first in F.
+fn found_position(way: Way, n: usize) -> usize
+    requires { ⌜ 0 < n ⌝ }
+    ensures { λ r. ⌜ (r < n) × ((ns : List VersionNode) → length ns ≡ n → r ≡ found-position (wayOf way) ns) ⌝ }
+{
+    match way {
+        Way::Backward => n - 1,
+        Way::Forward => 0,
+    }
+}
+
+// Where in the answer the record in a slot stands, of a trace that begins at `start`.
+fn position_of(work: &[u8], start: usize, i: usize) -> usize
+    requires { ⌜ (128 * i + 128 ≤ length (now work)) × (start < 2 ^ 63) ⌝ }
+    ensures { λ r. ⌜ r ≡ place-in (now (work .entry)) start i ⌝ }
+{
+    start + fields::get_u32(work, 128 * i + 96) as usize
+}
+
+// Whether the version in a slot is the leaf's.
+fn same_version(work: &[u8], i: usize, answer: &[u8], leaf: usize) -> bool
+    requires { ⌜ (128 * i + 128 ≤ length (now work)) × (leaf + 77 ≤ length (now answer)) ⌝ }
+    ensures { λ r. ⌜ r ≡ (eqb (node-in (now (work .entry)) i .entity) (leaf-at (now (answer .entry)) leaf .entity) && eqb (node-in (now (work .entry)) i .time) (leaf-at (now (answer .entry)) leaf .time)) ⌝ }
+{
+    let entity = proof_reader::leaf_entity(answer, leaf);
+    let time = proof_reader::leaf_time(answer, leaf);
+    if graph::entity_of(work, i).0 == entity.0 {
+        return graph::time_of(work, i).0 == time.0;
+    }
+    false
+}
+
+// The column of a trace's path digests: that of incoming digests in B, of outgoing ones in F.
+fn column_of(way: Way) -> usize
+    ensures { λ r. ⌜ r ≡ digest-column (wayOf way) ⌝ }
+{
+    match way {
+        Way::Backward => 0,
+        Way::Forward => 32,
+    }
+}
+
+fn put_digests(way: Way, work: &mut [u8], n: usize)
+    requires { ⌜ Ready (now work) n ⌝ }
+    ensures { λ _. ⌜ PathDigests (wayOf way) (now (work .entry)) (now (work .exit)) n ⌝ }
+{
+    match way {
+        Way::Backward => graph::incoming_digests(work, n),
+        Way::Forward => graph::outgoing_digests(work, n),
+    }
+}
+
+// Whether the path digest of the record in a slot is the leaf's.
+fn same_digest(way: Way, work: &mut [u8], n: usize, i: usize, answer: &[u8], leaf: usize) -> bool
+    requires { ⌜ Ready (now work) n × (i < n) × (leaf + 77 ≤ length (now answer)) ⌝ }
+    ensures { λ r. ⌜ r ≡ equal (getD (path-digests (wayOf way) (nodes-in (now (work .entry)) n)) i []) (leaf-digest (wayOf way) (leaf-at (now (answer .entry)) leaf)) ⌝ }
+{
+    put_digests(way, work, n);
+    let column = column_of(way);
+    fields::same(work, 128 * i + column, answer, leaf + 13 + column, 32)
+}
+
+// A row that is met, and where, or none.
+enum Rows {
+    Passed,
+    Refused { number: u64, position: usize },
+}
+
+// Rows 23 and 24.
+fn found_rows(way: Way, answer: &[u8], leaf: usize, start: usize, n: usize, work: &mut [u8]) -> Rows
+    requires { ⌜ Ready (now work) n × (0 < n) × (leaf + 77 ≤ length (now answer)) × (start ≤ length (now answer)) ⌝ }
+    ensures { λ r. ⌜ r ≡ rowsOf (found-rows (wayOf way) (leaf-at (now (answer .entry)) leaf) (nodes-in (now (work .entry)) n) (places-in (now (work .entry)) start n)) ⌝ }
+{
+    let i = found_position(way, n);
+    let position = position_of(work, start, i);
+    if same_version(work, i, answer, leaf) {
+        if same_digest(way, work, n, i, answer, leaf) {
+            return Rows::Passed;
+        }
+        return Rows::Refused {
+            number: 24,
+            position: position,
+        };
+    }
+    Rows::Refused {
+        number: 23,
+        position: position,
+    }
+}
+
+// Rows 18, 22, 23 and 24.
+fn trace_rows(
+    way: Way,
+    answer: &[u8],
+    leaf: usize,
+    start: usize,
+    n: usize,
+    end: usize,
+    work: &mut [u8],
+) -> Rows
+    requires { ⌜ Ready (now work) n × (0 < n) × (leaf + 77 ≤ length (now answer)) × (start ≤ length (now answer)) × (end ≤ length (now answer)) ⌝ }
+    ensures { λ r. ⌜ r ≡ rowsOf (trace-rows (wayOf way) (leaf-at (now (answer .entry)) leaf) (trace-in (now (answer .entry)) (now (work .entry)) start n end)) ⌝ }
+{
+    if end < answer.len() {
+        return Rows::Refused {
+            number: 18,
+            position: end,
+        };
+    }
+    let lowest = unreferenced(way, work, n);
+    if lowest < n {
+        let position = position_of(work, start, lowest);
+        return Rows::Refused {
+            number: 22,
+            position: position,
+        };
+    }
+    found_rows(way, answer, leaf, start, n, work)
+}
+
+// ---- a run of the check
+
+// A verdict, and where in the answer the checked records stand: 0 and 0 if there are none.
+struct Run {
+    verdict: Checking,
+    start: usize,
+    length: usize,
+}
+
+// A run that ends without records.
+fn bare_run(verdict: Checking) -> Run
+    ensures { λ r. ⌜ r ≡ bareRun verdict ⌝ }
+{
+    Run {
+        verdict: verdict,
+        start: 0,
+        length: 0,
+    }
+}
+
+// Without a trace, the answer ends where the proof does: row 18.
+fn without_trace(answer: &[u8], at: usize, verdict: Checking) -> Run
+    requires { ⌜ at ≤ length (now answer) ⌝ }
+    ensures { λ r. ⌜ ((e : SearchEnd _) (v : Verdict) → verdict ≡ checkingOf (ok v) → RunIs (now (answer .entry)) (end-here v (stopped e at (drop at (now (answer .entry))))) r) ⌝ }
+{
+    if at < answer.len() {
+        return bare_run(Checking::Refused {
+            number: 18,
+            position: at,
+        });
+    }
+    bare_run(verdict)
+}
+
+// The trace is in the table.
+fn traced(
+    way: Way,
+    answer: &[u8],
+    leaf: usize,
+    at: usize,
+    n: usize,
+    end: usize,
+    work: &mut [u8],
+) -> Run
+    requires { ⌜ Ready (now work) n × (0 < n) × (leaf + 77 ≤ length (now answer)) × (at + 5 ≤ length (now answer)) × (end ≤ length (now answer)) ⌝ }
+    ensures { λ r. ⌜ ((size : ℕ) → Traced (wayOf way) size (now (answer .entry)) at (now (work .entry)) n end → RunIs (now (answer .entry)) (with-trace (wayOf way) size (found-proof (now (answer .entry)) leaf at) (leaf-at (now (answer .entry)) leaf)) r) ⌝ }
+{
+    match trace_rows(way, answer, leaf, at, n, end, work) {
+        Rows::Refused { number, position } => bare_run(Checking::Refused {
+            number: number,
+            position: position,
+        }),
+        Rows::Passed => {
+            let time = proof_reader::leaf_time(answer, leaf);
+            Run {
+                verdict: Checking::Found {
+                    time: time,
+                    count: n,
+                },
+                start: at + 5,
+                length: answer.len() - at - 5,
+            }
+        }
+    }
+}
+
+// A trace behind the proof, which ended at the leaf.
+fn with_trace(way: Way, answer: &[u8], leaf: usize, at: usize, work: &mut [u8]) -> Run
+    requires { ⌜ (leaf + 77 ≤ length (now answer)) × (at ≤ length (now answer)) ⌝ }
+    ensures { λ r. ⌜ RunIs (now (answer .entry)) (with-trace (wayOf way) (length (now (work .entry))) (found-proof (now (answer .entry)) leaf at) (leaf-at (now (answer .entry)) leaf)) r ⌝ }
+{
+    match trace_reader::read_trace(answer, at, way, work) {
+        Trace::Refused { number, position } => bare_run(Checking::Refused {
+            number: number,
+            position: position,
+        }),
+        Trace::Read { count, end } => traced(way, answer, leaf, at, count, end, work),
+    }
+}
+
+// The proof ended at the leaf: direction 0 asks for no trace.
+fn found(direction: u8, answer: &[u8], leaf: usize, at: usize, work: &mut [u8]) -> Run
+    requires { ⌜ (direction ≤ 2) × (leaf + 77 ≤ length (now answer)) × (at ≤ length (now answer)) ⌝ }
+    ensures { λ r. ⌜ ((s t : ℕ) (q : Question) → question direction s t ≡ ok q → RunIs (now (answer .entry)) (check-end (q .part) (length (now (work .entry))) (found-proof (now (answer .entry)) leaf at) (SearchEnd.found (leaf-at (now (answer .entry)) leaf))) r) ⌝ }
+{
+    if direction == 0 {
+        let time = proof_reader::leaf_time(answer, leaf);
+        return without_trace(
+            answer,
+            at,
+            Checking::Found {
+                time: time,
+                count: 0,
+            },
+        );
+    }
+    if direction == 1 {
+        return with_trace(Way::Backward, answer, leaf, at, work);
+    }
+    with_trace(Way::Forward, answer, leaf, at, work)
+}
+
+// Rows 11 and 14, the proof, the trace; the work area is left as it comes.
+fn run_check(
+    direction: u8,
+    entity: EntityKey,
+    time: TimeKey,
+    commitment: &[u8],
+    answer: &[u8],
+    work: &mut [u8],
+) -> Run
+    ensures { λ r. ⌜ RunIs (now (answer .entry)) (run direction (entity .0) (time .0) (now (commitment .entry)) (now (answer .entry)) (length (now (work .entry)))) r ⌝ }
+{
+    if direction > 2 {
+        return bare_run(Checking::Refused {
+            number: 11,
+            position: 0,
+        });
+    }
+    if commitment.len() != 32 {
+        return bare_run(Checking::Refused {
+            number: 14,
+            position: 0,
+        });
+    }
+    match proof_reader::check_proof(0x52, entity, time, commitment, answer, 0) {
+        Proof::Refused { number, position } => bare_run(Checking::Refused {
+            number: number,
+            position: position,
+        }),
+        Proof::NoEntity { at } => without_trace(answer, at, Checking::NoEntity),
+        Proof::NotYet { at } => without_trace(answer, at, Checking::NotYet),
+        Proof::Found { leaf, at } => found(direction, answer, leaf, at, work),
+    }
+}
+
+// ---- the calls
+
+// Checks an answer against a commitment. The work area takes 128 bytes for each record of the answer's trace and is zero afterwards.
+pub fn check(
+    direction: u8,
+    entity: EntityKey,
+    time: TimeKey,
+    commitment: &[u8],
+    answer: &[u8],
+    work: &mut [u8],
+) -> Checking
+    ensures result { λ r. ⌜ r ≡ checkingOf (check-call direction (entity .0) (time .0) (now (commitment .entry)) (now (answer .entry)) (now (work .entry)) .result) ⌝ }
+    ensures cleared { λ _. ⌜ now (work .exit) ≡ check-call direction (entity .0) (time .0) (now (commitment .entry)) (now (answer .entry)) (now (work .entry)) .work ⌝ }
+{
+    let r = run_check(direction, entity, time, commitment, answer, work);
+    fields::clear(work);
+    r.verdict
+}
+
+// The checked records as that part of the answer, without the trace header; an empty part if there are none or the check refuses.
+pub fn records<'a>(
+    direction: u8,
+    entity: EntityKey,
+    time: TimeKey,
+    commitment: &[u8],
+    answer: &'a [u8],
+    work: &mut [u8],
+) -> &'a [u8]
+    ensures result { λ r. ⌜ now r ≡ records-call direction (entity .0) (time .0) (now (commitment .entry)) (now (answer .entry)) (now (work .entry)) .result ⌝ }
+    ensures cleared { λ _. ⌜ now (work .exit) ≡ records-call direction (entity .0) (time .0) (now (commitment .entry)) (now (answer .entry)) (now (work .entry)) .work ⌝ }
+{
+    let r = run_check(direction, entity, time, commitment, answer, work);
+    fields::clear(work);
+    let start = r.start;
+    &answer[start..start + r.length]
+}

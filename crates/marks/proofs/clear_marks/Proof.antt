@@ -1,0 +1,47 @@
+use Rattle.marks.proofs.Marking.{Clearing, clearing-none, clearing-more, clearing-all}
+use Prim.Native.Nat.{_-_}
+use borrow.Author.Needs.{needs}
+use native.Mathlib.Omega.{arith}
+use Rattle.marks.proofs.clear_marks.Statement.{statement}
+use Rattle.marks.proofs.clear_marks.Tie as tie
+
+abbrev Inv-loop : tie.InvT-loop
+Inv-loop work₀ n i₀ work i = Clearing work₀ work n i
+
+abbrev μ-loop : tie.MeasureT-loop
+μ-loop work₀ n i₀ work i = n - i
+
+loop-holds : tie.Need-loop-holds Inv-loop μ-loop
+loop-holds c = search clearing-none
+
+unmark-requires : tie.Need-unmark-requires Inv-loop μ-loop
+unmark-requires c κs = search (needs, arith)
+
+add-i : tie.Need-add-i Inv-loop μ-loop
+add-i c = search needs
+
+loop-less : tie.Need-loop-less Inv-loop μ-loop
+loop-less c = search needs
+
+loop-again : tie.Need-loop-again Inv-loop μ-loop
+loop-again c = search clearing-more
+
+same-length : tie.Need-same-length Inv-loop μ-loop
+same-length c = c .before .loop .inv .cleared .kept .size
+
+returns : tie.Need-returns Inv-loop μ-loop
+returns c = search clearing-all
+
+pub clear-marks-spec : {M : Type 1} → statement M
+clear-marks-spec =
+    tie.close
+    (tie.spec
+    Inv-loop
+    μ-loop
+    loop-holds
+    unmark-requires
+    add-i
+    loop-less
+    loop-again
+    same-length
+    returns)
