@@ -23,28 +23,42 @@ use Rattle.graph.proofs.Nodes.{length-nodes}
 use Rattle.proof_reader.specs.declared.Proof.{Proof}
 use Rattle.proof_reader.specs.declared.Proof.the-variants.{NoEntity as ToNoEntity, NotYet as ToNotYet, Found as ToLeaf, Refused as Unread}
 use Rattle.proof_reader.specs.Walks.{Gives, ProofIs}
-use Rattle.proof_reader.proofs.Ends.{no-entity-is, not-yet-is, found-is, refused-is, end-verdict, end-records}
+use Rattle.proof_reader.proofs.Ends.{no-entity-is, not-yet-is, found-is, refused-is, seen, run-seen, end-verdict}
 use Rattle.trace_reader.specs.declared.Trace.{Trace}
 use Rattle.trace_reader.specs.declared.Trace.the-variants.{Read, Refused as TraceRefused}
 use Rattle.trace_reader.specs.Records.{TraceIs, trace-read, trace-refused}
 use Rattle.checker.specs.declared.Checking.{Checking}
 use Rattle.checker.specs.declared.Checking.the-variants.{NoEntity, NotYet, Found, Refused}
+use Rattle.checker.specs.declared.Bounds.{Bounds}
 use Rattle.checker.specs.declared.Run.{Run}
 use Rattle.checker.specs.declared.Rows.{Rows}
 use Rattle.checker.specs.declared.Rows.the-variants.{Passed, Refused as Turned}
-use Rattle.checker.specs.Runs.{checkingOf, RunIs, bareRun, leaf-at, found-proof, rowsOf, trace-in, Traced}
+use Rattle.checker.specs.Runs.{checkingOf, boundsOf, RunIs, bareRun, leaf-at, found-proof, rowsOf, trace-in, Traced}
+
+-- ---- bounds
+
+abbrev bounds : ℕ → ℕ → Bounds
+bounds a b = record { start = a; length = b }
+
+bounds-seen : (m : Result Accepted) → boundsOf (seen m) ≡ boundsOf m
+unfolding boundsOf _>>=_
+bounds-seen (ok a) = refl
+bounds-seen (refuse n p) = refl
+
+same-bounds : (m n : Result Accepted) → seen m ≡ seen n → boundsOf m ≡ boundsOf n
+same-bounds m n e = sym (bounds-seen m) ∙ ap boundsOf e ∙ bounds-seen n
 
 -- ---- runs without records
 
 module _ (answer : Bytes) (m : Result Accepted) (r : Run) where
   pub bare-refused : (n p : ℕ) → m ≡ refuse n p → r ≡ bareRun (Refused n p) → RunIs answer m r
-  unfolding bareRun checkingOf verdict-of records-part part _>>=_
-  bare-refused n p e q = rw (e, q) (record { verdict-is = refl; records-are = refl; inside = omega arith })
+  unfolding bareRun checkingOf verdict-of boundsOf _>>=_
+  bare-refused n p e q = rw (e, q) (record { verdict-is = refl; bounds-are = refl; inside = omega arith })
 
   bare-accepted : (v : Verdict) (opened : List Bytes)
       → m ≡ ok (record { verdict = v; opened = opened; records = []; records-start = 0; records-length = 0 }) → r ≡ bareRun (checkingOf (ok v)) → RunIs answer m r
-  unfolding bareRun verdict-of records-part part _>>=_
-  bare-accepted v opened e q = rw (e, q) (record { verdict-is = refl; records-are = refl; inside = omega arith })
+  unfolding bareRun verdict-of boundsOf _>>=_
+  bare-accepted v opened e q = rw (e, q) (record { verdict-is = refl; bounds-are = refl; inside = omega arith })
 
 -- no trace: the answer ends where the proof does
 module _ (answer : Bytes) (at : ℕ) (r : Run) (verdict : Checking) where
@@ -107,7 +121,7 @@ module _ (way : question.Way) (answer work : Bytes) (leaf at n end : ℕ) (rows 
       → (size : ℕ) → Traced way size answer at work n end
       → RunIs answer (with-trace way size (found-proof answer leaf at) (leaf-at answer leaf))
       (record { verdict = Found time n; start = at + 5; length = length answer - at - 5 })
-  unfolding with-trace found-proof trace-in verdict-of records-part checkingOf leaf-at _>>=_
+  unfolding with-trace found-proof trace-in verdict-of boundsOf checkingOf leaf-at _>>=_
   rows-passed time q k h size t =
       let l = leaf-at answer leaf in
       let d : length (drop at answer) ≡ length answer - at = length-drop at answer in
@@ -123,7 +137,7 @@ module _ (way : question.Way) (answer work : Bytes) (leaf at n end : ℕ) (rows 
       ∙ bind-eq (trace-rows way l (trace-in answer work at n end)) _ tt (passed _ rows e q) in
       record {
         verdict-is = ap₂ (λ (a b : ℕ). Found (record { 0 = a }) b) k (sym (length-nodes work n)) ∙ sym (ap (λ (m : Result Accepted). checkingOf (verdict-of m)) w);
-        records-are = ap (λ (x : ℕ). part answer (at + 5) (x - 5)) (sym d) ∙ sym (ap (records-part answer) w);
+        bounds-are = ap (λ (x : ℕ). bounds (at + 5) (x - 5)) (sym d) ∙ sym (ap boundsOf w);
         inside = omega arith;
       }
 
@@ -264,7 +278,7 @@ module _ (direction s t : ℕ) (few : direction ≤ 2) (commitment answer : Byte
     at-end e at g i =
         record {
           verdict-is = i .verdict-is ∙ ap checkingOf (sym (end-verdict answer m e at g (k .q .part) size) ∙ sym (ap verdict-of by-proof));
-          records-are = i .records-are ∙ sym (end-records answer m e at g (k .q .part) size) ∙ sym (ap (records-part answer) by-proof);
+          bounds-are = i .bounds-are ∙ sym (same-bounds _ _ (run-seen answer m e at g (k .q .part) size)) ∙ sym (ap boundsOf by-proof);
           inside = i .inside;
         }
 
@@ -306,7 +320,19 @@ module _ (direction s t : ℕ) (commitment answer work w1 w2 : Bytes) (r : Run) 
   unfolding check-call cleared
   checked = (R .verdict-is, z ∙ ap (λ (n : ℕ). replicate n 0) e)
 
-  pub parted : (x : Bytes) → x ≡ take (r .start + r .length - r .start) (drop (r .start) answer)
-      → (x ≡ records-call direction s t commitment answer work .result) × (w2 ≡ records-call direction s t commitment answer work .work)
-  unfolding records-call cleared part
-  parted x q = (q ∙ ap (λ (n : ℕ). take n (drop (r .start) answer)) (let k : r .start + r .length - r .start ≡ r .length = omega arith in k) ∙ R .records-are, z ∙ ap (λ (n : ℕ). replicate n 0) e)
+  pub area-cleared : w2 ≡ records-call direction s t commitment answer work .work
+  unfolding records-call cleared
+  area-cleared = z ∙ ap (λ (n : ℕ). replicate n 0) e
+
+part-of : (answer : Bytes) (m : Result Accepted) → part answer (boundsOf m .start) (boundsOf m .length) ≡ records-part answer m
+unfolding boundsOf records-part part
+part-of answer (ok a) = refl
+part-of answer (refuse n p) = refl
+
+pub parted : (direction s t : ℕ) (commitment answer work : Bytes) (b : Bounds) (x : Bytes) → b ≡ boundsOf (run direction s t commitment answer (length work))
+    → x ≡ take (b .start + b .length - b .start) (drop (b .start) answer) → x ≡ records-call direction s t commitment answer work .result
+unfolding records-call part
+parted direction s t commitment answer work b x e q =
+    q ∙ ap (λ (n : ℕ). take n (drop (b .start) answer)) (let k : b .start + b .length - b .start ≡ b .length = omega arith in k)
+    ∙ ap (λ (c : Bounds). part answer (c .start) (c .length)) e
+    ∙ part-of answer (run direction s t commitment answer (length work))

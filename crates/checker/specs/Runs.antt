@@ -6,7 +6,7 @@ use mathlib.Core.List.{List, [], _∷_}
 use Prim.Native.Nat.{ℕ, _+_, _≤_}
 use lib.Dec.{eqb}
 use lib.ListN.{length, getD, take, drop}
-use Rattle.fields.specs.Fields.{part, equal}
+use Rattle.fields.specs.Fields.{equal}
 use Rattle.model.specs.Numbers.{Bytes}
 use Rattle.model.specs.Result.{Result, ok, refuse, _>>=_, need}
 use Rattle.model.specs.Rows.{found-record-differs, path-digest-differs}
@@ -14,11 +14,12 @@ use Rattle.model.specs.Graph.{VersionNode, node-at}
 use Rattle.model.specs.Accumulator.{L-width, Leaf}
 use Rattle.model.specs.Question.{Way, backward, forward, SearchEnd, Verdict}
 use Rattle.model.specs.CheckRows.{leaf-in, CheckedProof, stopped, CheckedTrace, read-trace, unreferenced, found-position, path-digests, leaf-digest, Accepted}
-use Rattle.model.specs.Calls.{verdict-of, records-part}
+use Rattle.model.specs.Calls.{verdict-of}
 use Rattle.graph.specs.Table.{nodes-in, columns, Kept, Digests, Ready}
 use Rattle.trace_reader.specs.Records.{places-in}
 use Rattle.checker.specs.declared.Checking.{Checking}
 use Rattle.checker.specs.declared.Checking.the-variants.{NoEntity, NotYet, Found, Refused}
+use Rattle.checker.specs.declared.Bounds.{Bounds}
 use Rattle.checker.specs.declared.Run.{Run}
 use Rattle.checker.specs.declared.Rows.{Rows}
 use Rattle.checker.specs.declared.Rows.the-variants.{Passed, Refused as Turned}
@@ -32,10 +33,15 @@ checkingOf (ok Verdict.not-yet) = NotYet
 checkingOf (ok (Verdict.found t n)) = Found (record { 0 = t }) n
 checkingOf (refuse n p) = Refused n p
 
--- a run of the check: its verdict, and where in the answer the checked records stand
+-- where in the answer the checked records stand; 0 and 0 if there are none or the check refuses
+unfoldable pub boundsOf : Result Accepted → Bounds
+boundsOf (ok a) = record { start = a .records-start; length = a .records-length }
+boundsOf (refuse n p) = record { start = 0; length = 0 }
+
+-- a run of the check: its verdict, and where the checked records stand
 pub record RunIs (answer : Bytes) (m : Result Accepted) (r : Run) : Type 0 where
   pub verdict-is : r .verdict ≡ checkingOf (verdict-of m)
-  pub records-are : part answer (r .start) (r .length) ≡ records-part answer m
+  pub bounds-are : _≡_ {A = Bounds} (record { start = r .start; length = r .length }) (boundsOf m)
   pub inside : r .start + r .length ≤ length answer
 
 -- a run that ends without records

@@ -20,7 +20,7 @@ ghost use Rattle.graph.specs.Ways.{wayOf};
 ghost use Rattle.graph.specs.Table.{node-in, nodes-in, Ready};
 ghost use Rattle.marks.specs.Marks.{marked-in};
 ghost use Rattle.trace_reader.specs.Records.{place-in, places-in};
-ghost use Rattle.checker.specs.Runs.{checkingOf, RunIs, bareRun, leaf-at, found-proof, rowsOf, Lowest, digest-column, PathDigests, trace-in, found-rows, Traced};
+ghost use Rattle.checker.specs.Runs.{checkingOf, boundsOf, RunIs, bareRun, leaf-at, found-proof, rowsOf, Lowest, digest-column, PathDigests, trace-in, found-rows, Traced};
 
 // The verdict of a check, or the row that turned it away and where.
 pub enum Checking {
@@ -349,7 +349,34 @@ pub fn check(
     r.verdict
 }
 
-// The checked records as that part of the answer, without the trace header; an empty part if there are none or the check refuses.
+// Where a part of the answer stands.
+pub struct Bounds {
+    pub start: usize,
+    pub length: usize,
+}
+
+// Where in the answer the checked records stand, without the trace header: 0 and 0 if there are none or the check refuses.
+pub fn record_bounds(
+    direction: u8,
+    entity: EntityKey,
+    time: TimeKey,
+    commitment: &[u8],
+    answer: &[u8],
+    work: &mut [u8],
+) -> Bounds
+    ensures result { λ r. ⌜ r ≡ boundsOf (run direction (entity .0) (time .0) (now (commitment .entry)) (now (answer .entry)) (length (now (work .entry)))) ⌝ }
+    ensures inside { λ r. ⌜ r .start + r .length ≤ length (now (answer .entry)) ⌝ }
+    ensures cleared { λ _. ⌜ now (work .exit) ≡ records-call direction (entity .0) (time .0) (now (commitment .entry)) (now (answer .entry)) (now (work .entry)) .work ⌝ }
+{
+    let r = run_check(direction, entity, time, commitment, answer, work);
+    fields::clear(work);
+    Bounds {
+        start: r.start,
+        length: r.length,
+    }
+}
+
+// The checked records as that part of the answer; an empty part if there are none or the check refuses.
 pub fn records<'a>(
     direction: u8,
     entity: EntityKey,
@@ -361,8 +388,7 @@ pub fn records<'a>(
     ensures result { λ r. ⌜ now r ≡ records-call direction (entity .0) (time .0) (now (commitment .entry)) (now (answer .entry)) (now (work .entry)) .result ⌝ }
     ensures cleared { λ _. ⌜ now (work .exit) ≡ records-call direction (entity .0) (time .0) (now (commitment .entry)) (now (answer .entry)) (now (work .entry)) .work ⌝ }
 {
-    let r = run_check(direction, entity, time, commitment, answer, work);
-    fields::clear(work);
-    let start = r.start;
-    &answer[start..start + r.length]
+    let b = record_bounds(direction, entity, time, commitment, answer, work);
+    let start = b.start;
+    &answer[start..start + b.length]
 }

@@ -10,7 +10,7 @@ use Rattle.model.specs.Result.{Result, ok, refuse, _>>=_, need}
 use Rattle.model.specs.Accumulator.{Leaf}
 use Rattle.model.specs.Question.{Verdict, Part, version-only, trace-of, SearchEnd}
 use Rattle.model.specs.CheckRows.{CheckedProof, stopped, leaf-in, read-trace, trace-rows, Accepted, end-here, with-trace, check-end}
-use Rattle.model.specs.Calls.{verdict-of, records-part}
+use Rattle.model.specs.Calls.{verdict-of}
 use Rattle.model.proofs.Outcomes.{bind-eq}
 use Rattle.model.proofs.CheckSteps.{bare}
 use Rattle.proof_reader.specs.declared.Proof.{Proof}
@@ -50,10 +50,10 @@ module _ (answer : Bytes) (m : Result CheckedProof) (r : Proof) (P : ProofIs ans
 -- ---- without the strings opened
 
 -- an accepted check without them
-abbrev unopened : Accepted → Accepted
+abbrev pub unopened : Accepted → Accepted
 unopened a = record { verdict = a .verdict; opened = []; records = a .records; records-start = a .records-start; records-length = a .records-length }
 
-abbrev seen : Result Accepted → Result Accepted
+abbrev pub seen : Result Accepted → Result Accepted
 seen m = m >>= λ a. ok (unopened a)
 
 seen-same : {A : Type 0} (m : Result A) (f g : A → Result Accepted) → ((a : A) → seen (f a) ≡ seen (g a)) → seen (m >>= f) ≡ seen (m >>= g)
@@ -78,16 +78,11 @@ unfolding verdict-of _>>=_
 verdict-seen (ok a) = refl
 verdict-seen (refuse n p) = refl
 
-records-seen : (answer : Bytes) (m : Result Accepted) → records-part answer (seen m) ≡ records-part answer m
-unfolding records-part _>>=_
-records-seen answer (ok a) = refl
-records-seen answer (refuse n p) = refl
-
 module _ (answer : Bytes) (m : Result CheckedProof) (e : SearchEnd Leaf) (at : ℕ) (g : Gives answer m e at) (p : Part) (work : ℕ) where
   bare-is : bare (g .proof) ≡ stopped e at (drop at answer)
   bare-is = simp (g .end-is, g .pos-is, g .rest-is)
 
-  run-seen : seen (m >>= λ r. check-end p work r (r .end)) ≡ seen (check-end p work (stopped e at (drop at answer)) e)
+  pub run-seen : seen (m >>= λ r. check-end p work r (r .end)) ≡ seen (check-end p work (stopped e at (drop at answer)) e)
   run-seen =
       ap seen (bind-eq m _ (g .proof) (g .is))
       ∙ end-seen p work (g .proof) (g .proof .end)
@@ -96,10 +91,3 @@ module _ (answer : Bytes) (m : Result CheckedProof) (e : SearchEnd Leaf) (at : �
   -- the check's verdict, by how the proof ended and the byte behind it
   pub end-verdict : verdict-of (m >>= λ r. check-end p work r (r .end)) ≡ verdict-of (check-end p work (stopped e at (drop at answer)) e)
   end-verdict = sym (verdict-seen (m >>= λ r. check-end p work r (r .end))) ∙ ap verdict-of run-seen ∙ verdict-seen (check-end p work (stopped e at (drop at answer)) e)
-
-  -- the part with the records
-  pub end-records : records-part answer (m >>= λ r. check-end p work r (r .end)) ≡ records-part answer (check-end p work (stopped e at (drop at answer)) e)
-  end-records =
-      sym (records-seen answer (m >>= λ r. check-end p work r (r .end)))
-      ∙ ap (records-part answer) run-seen
-      ∙ records-seen answer (check-end p work (stopped e at (drop at answer)) e)

@@ -1,16 +1,12 @@
-use Rattle.checker.proofs.Running.{parted}
-use mathlib.Core.Path.{refl}
-use denote.Ref.{now}
 use borrow.Author.Needs.{needs}
-use native.Mathlib.Omega.{arith}
+use denote.Ref.{now}
+use mathlib.Core.Path.{refl}
+use Rattle.checker.proofs.Running.{parted}
 use Rattle.checker.proofs.records.Statement.{statement}
 use Rattle.checker.proofs.records.Tie as tie
 
-run-check-requires : tie.Need-run-check-requires
-run-check-requires c κs = search needs
-
-clear-requires : tie.Need-clear-requires
-clear-requires c κs = search needs
+record-bounds-requires : tie.Need-record-bounds-requires
+record-bounds-requires c κs = search needs
 
 add-result : tie.Need-add-result
 add-result c = search needs
@@ -28,18 +24,12 @@ same-length : tie.Need-same-length
 same-length c = search needs
 
 returns : tie.Need-returns
-returns c = let a = c .before .before .before .before .before .before .before .before .before .before .before .before .before .args in
-    parted _ _ _ (now (a .commitment)) (now (a .answer)) (now (a .work)) (c .before .before .before .before .before .before .before .before .run-check .last .1 .1 .1 .1 .1 .0) _ _ (c .before .before .before .before .before .before .before .before .run-check .ensures) (omega arith) (c .before .before .before .before .clear .ensures) _ refl
+returns c =
+    let a = c .before .before .before .before .before .before .before .before .before .args in
+    let b = c .before .before .before .before .record-bounds .ensures in
+    (parted _ _ _ (now (a .commitment)) (now (a .answer)) (now (a .work)) _ _ (b .0) refl, b .1 .1)
 
 pub records-spec : {M : Type 1} → statement M
 records-spec =
     tie.close
-    (tie.spec
-    run-check-requires
-    clear-requires
-    add-result
-    sub-result
-    part-result-start
-    part-result-end
-    same-length
-    returns)
+    (tie.spec record-bounds-requires add-result sub-result part-result-start part-result-end same-length returns)
