@@ -13,7 +13,7 @@ use Rattle.model.specs.Accumulator.{Leaf}
 use Rattle.model.specs.Question as question
 use Rattle.model.specs.Question.{at-or-before, backward, forward, Part, version-only, trace-of, Question, question, SearchEnd, Verdict}
 use Rattle.model.specs.CheckRows.{leaf-in, CheckedProof, stopped, check-proof, read-trace, trace-rows, Accepted, end-here, with-trace, check-end, run-under, run}
-use Rattle.model.specs.Calls.{cleared, verdict-of, records-part, check-call, records-call}
+use Rattle.model.specs.Calls.{cleared, verdict-of, records-part, records-call}
 use Rattle.model.proofs.Outcomes.{bind-eq, bind-refused, ok-inj}
 use Rattle.model.proofs.TraceReading as reading
 use Rattle.log.specs.declared.TimeKey.{TimeKey}
@@ -120,7 +120,7 @@ module _ (way : question.Way) (answer work : Bytes) (leaf at n end : ℕ) (rows 
   pub rows-passed : (time : TimeKey) → rows ≡ Passed → time .0 ≡ leaf-in (take 77 (drop leaf answer)) .time → at + 5 ≤ length answer
       → (size : ℕ) → Traced way size answer at work n end
       → RunIs answer (with-trace way size (found-proof answer leaf at) (leaf-at answer leaf))
-      (record { verdict = Found time n; start = at + 5; length = length answer - at - 5 })
+      (record { verdict = Found time n; start = at + 5; length = length answer - (at + 5) })
   unfolding with-trace found-proof trace-in verdict-of boundsOf checkingOf leaf-at _>>=_
   rows-passed time q k h size t =
       let l = leaf-at answer leaf in
@@ -137,7 +137,7 @@ module _ (way : question.Way) (answer work : Bytes) (leaf at n end : ℕ) (rows 
       ∙ bind-eq (trace-rows way l (trace-in answer work at n end)) _ tt (passed _ rows e q) in
       record {
         verdict-is = ap₂ (λ (a b : ℕ). Found (record { 0 = a }) b) k (sym (length-nodes work n)) ∙ sym (ap (λ (m : Result Accepted). checkingOf (verdict-of m)) w);
-        bounds-are = ap (λ (x : ℕ). bounds (at + 5) (x - 5)) (sym d) ∙ sym (ap boundsOf w);
+        bounds-are = ap (bounds (at + 5)) (let x : length answer - (at + 5) ≡ length (drop at answer) - 5 = omega arith in x) ∙ sym (ap boundsOf w);
         inside = omega arith;
       }
 
@@ -314,15 +314,9 @@ module _ (direction s t : ℕ) (commitment answer : Bytes) (size : ℕ) (r : Run
 
 -- ---- the calls
 
-module _ (direction s t : ℕ) (commitment answer work w1 w2 : Bytes) (r : Run) (R : RunIs answer (run direction s t commitment answer (length work)) r)
-    (e : length w1 ≡ length work) (z : w2 ≡ replicate (length w1) 0) where
-  pub checked : (r .verdict ≡ checkingOf (check-call direction s t commitment answer work .result)) × (w2 ≡ check-call direction s t commitment answer work .work)
-  unfolding check-call cleared
-  checked = (R .verdict-is, z ∙ ap (λ (n : ℕ). replicate n 0) e)
-
-  pub area-cleared : w2 ≡ records-call direction s t commitment answer work .work
-  unfolding records-call cleared
-  area-cleared = z ∙ ap (λ (n : ℕ). replicate n 0) e
+pub area-cleared : (work w1 w2 : Bytes) → length w1 ≡ length work → w2 ≡ replicate (length w1) 0 → w2 ≡ cleared work
+unfolding cleared
+area-cleared work w1 w2 e z = z ∙ ap (λ (n : ℕ). replicate n 0) e
 
 part-of : (answer : Bytes) (m : Result Accepted) → part answer (boundsOf m .start) (boundsOf m .length) ≡ records-part answer m
 unfolding boundsOf records-part part

@@ -15,11 +15,12 @@ ghost use Rattle.model.specs.Result.{ok};
 ghost use Rattle.model.specs.Graph.{VersionNode};
 ghost use Rattle.model.specs.Question.{backward, Question, question, SearchEnd, Verdict};
 ghost use Rattle.model.specs.CheckRows.{stopped, found-position, path-digests, leaf-digest, trace-rows, end-here, with-trace, check-end, run};
-ghost use Rattle.model.specs.Calls.{check-call, records-call};
+ghost use Rattle.model.specs.Calls.{cleared, check-call, records-call};
 ghost use Rattle.graph.specs.Ways.{wayOf};
 ghost use Rattle.graph.specs.Table.{node-in, nodes-in, Ready};
 ghost use Rattle.marks.specs.Marks.{marked-in};
 ghost use Rattle.trace_reader.specs.Records.{place-in, places-in};
+ghost use Rattle.checker.specs.declared.Checking.the-variants.{Refused};
 ghost use Rattle.checker.specs.Runs.{checkingOf, boundsOf, RunIs, bareRun, leaf-at, found-proof, rowsOf, Lowest, digest-column, PathDigests, trace-in, found-rows, Traced};
 
 // The verdict of a check, or the row that turned it away and where.
@@ -214,16 +215,23 @@ fn bare_run(verdict: Checking) -> Run
     }
 }
 
+// A run that a row turns away.
+fn refused(number: u64, position: usize) -> Run
+    ensures { λ r. ⌜ r ≡ bareRun (Refused number position) ⌝ }
+{
+    bare_run(Checking::Refused {
+        number: number,
+        position: position,
+    })
+}
+
 // Without a trace, the answer ends where the proof does: row 18.
 fn without_trace(answer: &[u8], at: usize, verdict: Checking) -> Run
     requires { ⌜ at ≤ length (now answer) ⌝ }
     ensures { λ r. ⌜ ((e : SearchEnd _) (v : Verdict) → verdict ≡ checkingOf (ok v) → RunIs (now (answer .entry)) (end-here v (stopped e at (drop at (now (answer .entry))))) r) ⌝ }
 {
     if at < answer.len() {
-        return bare_run(Checking::Refused {
-            number: 18,
-            position: at,
-        });
+        return refused(18, at);
     }
     bare_run(verdict)
 }
@@ -242,19 +250,18 @@ fn traced(
     ensures { λ r. ⌜ ((size : ℕ) → Traced (wayOf way) size (now (answer .entry)) at (now (work .entry)) n end → RunIs (now (answer .entry)) (with-trace (wayOf way) size (found-proof (now (answer .entry)) leaf at) (leaf-at (now (answer .entry)) leaf)) r) ⌝ }
 {
     match trace_rows(way, answer, leaf, at, n, end, work) {
-        Rows::Refused { number, position } => bare_run(Checking::Refused {
-            number: number,
-            position: position,
-        }),
+        Rows::Refused { number, position } => refused(number, position),
         Rows::Passed => {
             let time = proof_reader::leaf_time(answer, leaf);
+            let start = at + 5;
+            let length = answer.len() - start;
             Run {
                 verdict: Checking::Found {
                     time: time,
                     count: n,
                 },
-                start: at + 5,
-                length: answer.len() - at - 5,
+                start: start,
+                length: length,
             }
         }
     }
@@ -266,10 +273,7 @@ fn with_trace(way: Way, answer: &[u8], leaf: usize, at: usize, work: &mut [u8]) 
     ensures { λ r. ⌜ RunIs (now (answer .entry)) (with-trace (wayOf way) (length (now (work .entry))) (found-proof (now (answer .entry)) leaf at) (leaf-at (now (answer .entry)) leaf)) r ⌝ }
 {
     match trace_reader::read_trace(answer, at, way, work) {
-        Trace::Refused { number, position } => bare_run(Checking::Refused {
-            number: number,
-            position: position,
-        }),
+        Trace::Refused { number, position } => refused(number, position),
         Trace::Read { count, end } => traced(way, answer, leaf, at, count, end, work),
     }
 }
@@ -308,22 +312,13 @@ fn run_check(
     ensures { λ r. ⌜ RunIs (now (answer .entry)) (run direction (entity .0) (time .0) (now (commitment .entry)) (now (answer .entry)) (length (now (work .entry)))) r ⌝ }
 {
     if direction > 2 {
-        return bare_run(Checking::Refused {
-            number: 11,
-            position: 0,
-        });
+        return refused(11, 0);
     }
     if commitment.len() != 32 {
-        return bare_run(Checking::Refused {
-            number: 14,
-            position: 0,
-        });
+        return refused(14, 0);
     }
     match proof_reader::check_proof(0x52, entity, time, commitment, answer, 0) {
-        Proof::Refused { number, position } => bare_run(Checking::Refused {
-            number: number,
-            position: position,
-        }),
+        Proof::Refused { number, position } => refused(number, position),
         Proof::NoEntity { at } => without_trace(answer, at, Checking::NoEntity),
         Proof::NotYet { at } => without_trace(answer, at, Checking::NotYet),
         Proof::Found { leaf, at } => found(direction, answer, leaf, at, work),
@@ -331,6 +326,23 @@ fn run_check(
 }
 
 // ---- the calls
+
+// A run, and then the work area cleared, whatever the outcome.
+fn run_cleared(
+    direction: u8,
+    entity: EntityKey,
+    time: TimeKey,
+    commitment: &[u8],
+    answer: &[u8],
+    work: &mut [u8],
+) -> Run
+    ensures run { λ r. ⌜ RunIs (now (answer .entry)) (run direction (entity .0) (time .0) (now (commitment .entry)) (now (answer .entry)) (length (now (work .entry)))) r ⌝ }
+    ensures area { λ _. ⌜ now (work .exit) ≡ cleared (now (work .entry)) ⌝ }
+{
+    let r = run_check(direction, entity, time, commitment, answer, work);
+    fields::clear(work);
+    r
+}
 
 // Checks an answer against a commitment. The work area takes 128 bytes for each record of the answer's trace and is zero afterwards.
 pub fn check(
@@ -344,8 +356,7 @@ pub fn check(
     ensures result { λ r. ⌜ r ≡ checkingOf (check-call direction (entity .0) (time .0) (now (commitment .entry)) (now (answer .entry)) (now (work .entry)) .result) ⌝ }
     ensures cleared { λ _. ⌜ now (work .exit) ≡ check-call direction (entity .0) (time .0) (now (commitment .entry)) (now (answer .entry)) (now (work .entry)) .work ⌝ }
 {
-    let r = run_check(direction, entity, time, commitment, answer, work);
-    fields::clear(work);
+    let r = run_cleared(direction, entity, time, commitment, answer, work);
     r.verdict
 }
 
@@ -368,8 +379,7 @@ pub fn record_bounds(
     ensures inside { λ r. ⌜ r .start + r .length ≤ length (now (answer .entry)) ⌝ }
     ensures cleared { λ _. ⌜ now (work .exit) ≡ records-call direction (entity .0) (time .0) (now (commitment .entry)) (now (answer .entry)) (now (work .entry)) .work ⌝ }
 {
-    let r = run_check(direction, entity, time, commitment, answer, work);
-    fields::clear(work);
+    let r = run_cleared(direction, entity, time, commitment, answer, work);
     Bounds {
         start: r.start,
         length: r.length,

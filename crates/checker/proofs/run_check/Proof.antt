@@ -3,17 +3,17 @@ use borrow.Author.Needs.{needs}
 use Rattle.checker.proofs.run_check.Statement.{statement}
 use Rattle.checker.proofs.run_check.Tie as tie
 
-bare-run-requires : tie.Need-bare-run-requires
-bare-run-requires c κs = search needs
+refused-requires : tie.Need-refused-requires
+refused-requires c κs = search needs
 
 returns : tie.Need-returns
-returns c = direction-refused _ _ _ _ _ _ _ (c .before .if1 .taken) (c .bare-run .ensures)
+returns c = direction-refused _ _ _ _ _ _ _ (c .before .if1 .taken) (c .refused .ensures)
 
-bare-run-requires-2 : tie.Need-bare-run-requires-2
-bare-run-requires-2 c κs = search needs
+refused-requires-2 : tie.Need-refused-requires-2
+refused-requires-2 c κs = search needs
 
 returns-2 : tie.Need-returns-2
-returns-2 c = commitment-refused _ _ _ _ _ _ _ (c .before .before .if1 .left) (c .before .if2 .taken) (c .bare-run2 .ensures)
+returns-2 c = commitment-refused _ _ _ _ _ _ _ (c .before .before .if1 .left) (c .before .if2 .taken) (c .refused2 .ensures)
 
 check-proof-requires : tie.Need-check-proof-requires
 check-proof-requires c κs = search needs
@@ -21,8 +21,8 @@ check-proof-requires c κs = search needs
 enum-known-number : tie.Need-enum-known-number
 enum-known-number c = search needs
 
-bare-run-requires-3 : tie.Need-bare-run-requires-3
-bare-run-requires-3 c κs = search needs
+refused-requires-3 : tie.Need-refused-requires-3
+refused-requires-3 c κs = search needs
 
 enum-known-at : tie.Need-enum-known-at
 enum-known-at c = search needs
@@ -44,7 +44,7 @@ found-requires c κs = let l = leaf-inside _ _ _ (c .before .before .before .bef
     (c .before .before .before .before .before .before .if1 .left, l .0, l .1)
 
 returns-3 : tie.Need-returns-3
-returns-3 c = proof-refused _ _ _ (c .before .before .before .before .before .before .if1 .left) _ _ _ (c .before .before .before .before .check-proof .ensures) _ _ (c .before .before .before .before .before .if2 .left) _ _ (c .before .before .number .given .1) (c .bare-run3 .ensures)
+returns-3 c = proof-refused _ _ _ (c .before .before .before .before .before .before .if1 .left) _ _ _ (c .before .before .before .before .check-proof .ensures) _ _ (c .before .before .before .before .before .if2 .left) _ _ (c .before .before .number .given .1) (c .refused3 .ensures)
 
 returns-4 : tie.Need-returns-4
 returns-4 c = to-no-entity _ _ _ (c .before .before .before .before .before .before .if1 .left) _ _ _ (c .before .before .before .before .check-proof .ensures) _ _ (c .before .before .before .before .before .if2 .left) _ (c .before .before .at .given .1) (c .without-trace .ensures)
@@ -62,13 +62,13 @@ pub run-check-spec : {M : Type 1} → statement M
 run-check-spec =
     tie.close
     (tie.spec
-    bare-run-requires
+    refused-requires
     returns
-    bare-run-requires-2
+    refused-requires-2
     returns-2
     check-proof-requires
     enum-known-number
-    bare-run-requires-3
+    refused-requires-3
     enum-known-at
     without-trace-requires
     enum-known-at-2

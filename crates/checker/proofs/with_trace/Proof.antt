@@ -11,8 +11,8 @@ read-trace-requires c κs = search needs
 enum-known-number : tie.Need-enum-known-number
 enum-known-number c = search needs
 
-bare-run-requires : tie.Need-bare-run-requires
-bare-run-requires c κs = search needs
+refused-requires : tie.Need-refused-requires
+refused-requires c κs = search needs
 
 enum-known-count : tie.Need-enum-known-count
 enum-known-count c = search needs
@@ -28,7 +28,7 @@ same-length : tie.Need-same-length
 same-length c = search needs
 
 returns : tie.Need-returns
-returns c = trace-turned _ _ _ _ _ _ (c .before .before .before .before .before .before .read-trace .ensures) _ _ _ _ (c .before .before .number .given .1) (c .bare-run .ensures)
+returns c = trace-turned _ _ _ _ _ _ (c .before .before .before .before .before .before .read-trace .ensures) _ _ _ _ (c .before .before .number .given .1) (c .refused .ensures)
 
 same-length-2 : tie.Need-same-length-2
 same-length-2 c = search needs
@@ -45,7 +45,7 @@ with-trace-spec =
     (tie.spec
     read-trace-requires
     enum-known-number
-    bare-run-requires
+    refused-requires
     enum-known-count
     traced-requires
     same-length
