@@ -1,0 +1,36 @@
+use Rattle.trace_writer.proofs.Edges.{previous-stands, source-stands-then, both-marked}
+use borrow.Author.Needs.{needs}
+use Rattle.trace_writer.proofs.mark_starts.Statement.{statement}
+use Rattle.trace_writer.proofs.mark_starts.Tie as tie
+use Rattle.graph.proofs.previous_of.Reads as previous-of-reads
+use Rattle.graph.proofs.source_of.Reads as source-of-reads
+use Rattle.trace_writer.proofs.mark_start.Reads as mark-start-reads
+
+previous-of-requires : tie.Need-previous-of-requires
+previous-of-requires c κs = search needs
+
+source-of-requires : tie.Need-source-of-requires
+source-of-requires c κs = search needs
+
+mark-start-requires : tie.Need-mark-start-requires
+mark-start-requires c κs = search previous-stands
+
+mark-start-requires-2 : tie.Need-mark-start-requires-2
+mark-start-requires-2 c κs = search source-stands-then
+
+same-length : tie.Need-same-length
+same-length c = search needs
+
+returns : tie.Need-returns
+returns c = search both-marked
+
+pub mark-starts-spec : {M : Type 1} → statement M
+mark-starts-spec =
+    tie.close
+    (tie.spec
+    previous-of-requires
+    source-of-requires
+    mark-start-requires
+    mark-start-requires-2
+    same-length
+    returns)
