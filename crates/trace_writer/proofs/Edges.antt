@@ -1,7 +1,7 @@
 -- The edges of a slot by the places of their starts: which starts they mark, and whether they start inside. Assumes nothing.
 use mathlib.Core.Path.{_≡_, refl, sym, ap, ap₂, _∙_}
 use mathlib.Core.Bool.{Bool, true, false, cond, _&&_, _||_, or-false, or-true, or-assoc}
-use mathlib.Core.List.{List, [], _∷_, _++_, append-assoc}
+use mathlib.Core.List.{List, [], _∷_, _++_}
 use Prim.Native.Nat.{ℕ, _+_, _*_, _^_, _≤_, _<_}
 use native.Mathlib.Decide.{ℕ-discrete}
 use native.Mathlib.Omega.{arith}
@@ -173,10 +173,10 @@ module _ (work : Bytes) (i : ℕ) (st : Starts work i) (ms : List ℕ) (agree : 
       go true f = f refl
       go false f = refl
 
-  pub previous-elem : is-inside work (previous-in work i) ≡ (ltb (previous-in work i) absent && elem (previous-in work i) ms)
+  previous-elem : is-inside work (previous-in work i) ≡ (ltb (previous-in work i) absent && elem (previous-in work i) ms)
   previous-elem = inside-elem (previous-in work i) (previous-before work i st (previous-in work i) refl)
 
-  pub source-elem : is-inside work (source-in work i) ≡ (ltb (source-in work i) absent && elem (source-in work i) ms)
+  source-elem : is-inside work (source-in work i) ≡ (ltb (source-in work i) absent && elem (source-in work i) ms)
   source-elem = inside-elem (source-in work i) (source-before work i st (source-in work i) refl)
 
   pub starts-agree : starts-inside work i ≡ starts-in ms (node-in work i .in-edges)

@@ -8,7 +8,7 @@ use native.Mathlib.Decide.{ℕ-discrete, decLt}
 use native.Mathlib.Omega.{arith}
 use borrow.Author.Tests.{eq-eqb, ne-eqb}
 use lib.Dec.{T, eqb, lit≤, T-not}
-use lib.ListN.{length, getD, set, length-append}
+use lib.ListN.{length, getD, set}
 use Rattle.fields.specs.Fields.{decode, field}
 use Rattle.fields.proofs.Places.{set-written, field-byte}
 use Rattle.model.specs.Numbers.{Bytes, elem}
@@ -130,7 +130,7 @@ module _ (work : Bytes) where
       there s rec (yes k) = rec k
       there s rec (no k) = absurd (T-not (is-marked work i) s (subst (λ (z : ℕ). T (is-marked work z)) (let e : x ≡ i = omega arith in e) t))
 
-  pub members-up : (i : ℕ) → Up (λ (k : ℕ). k) (members work i)
+  members-up : (i : ℕ) → Up (λ (k : ℕ). k) (members work i)
   unfolding members
   members-up zero = none
   members-up (suc i) =

@@ -34,7 +34,7 @@ rank-is work i r e = e
 
 -- ---- how many are marked
 
-pub one-at-most : (b : Bool) (c : ℕ) → c ≡ cond b 1 0 → c ≤ 1
+one-at-most : (b : Bool) (c : ℕ) → c ≡ cond b 1 0 → c ≤ 1
 one-at-most true c e = omega arith
 one-at-most false c e = omega arith
 
@@ -47,7 +47,7 @@ module _ (work : Bytes) where
       go true = length-append (members work i) (i ∷ [])
       go false = let z : length (members work i) ≡ length (members work i) + 0 = omega arith in z
 
-  pub count-few : (i : ℕ) → length (members work i) ≤ i
+  count-few : (i : ℕ) → length (members work i) ≤ i
   unfolding members
   count-few zero = lit≤ tt
   count-few (suc i) = let r = count-few i in let c = one-at-most (is-marked work i) _ refl in omega (arith, count-more i)
@@ -66,13 +66,13 @@ unfolding members
 ranking-none w0 n =
     record { few = omega arith; kept = kept-none rank-column w0; count = refl; small = omega arith; ranks = λ j h. absurd (let z : ⊥ = omega arith in z) }
 
-pub ranking-room : (w0 w : Bytes) (n rank i : ℕ) → 128 * n ≤ length w0 → Ranking w0 w n rank i → i < n → 128 * i + 128 ≤ length w
+ranking-room : (w0 w : Bytes) (n rank i : ℕ) → 128 * n ≤ length w0 → Ranking w0 w n rank i → i < n → 128 * i + 128 ≤ length w
 ranking-room w0 w n rank i r t h = omega (arith, t .kept .size)
 
 pub ranking-size : (w0 w : Bytes) (n rank i : ℕ) → Ranking w0 w n rank i → length w ≡ length w0
 ranking-size w0 w n rank i t = t .kept .size
 
-pub few-absent : (n i : ℕ) → n ≤ absent → i ≤ n → i ≤ 65535
+few-absent : (n i : ℕ) → n ≤ absent → i ≤ n → i ≤ 65535
 unfolding absent
 few-absent n i h k = omega arith
 
@@ -127,9 +127,6 @@ ranking-all w0 w n rank i h t =
 -- ---- the number of all records
 
 module _ (work : Bytes) (n : ℕ) (t : Ranked work n) (some : 0 < n) where
-  pub last-room : 128 * (n - 1) + 128 ≤ length work
-  last-room = omega (arith, t .ready .room)
-
   pub all-counted : (r c : ℕ) → r ≡ rank-in work (n - 1) → c ≡ cond (is-marked work (n - 1)) 1 0 → r + c ≡ length (members work n)
   all-counted r c e f =
       ap₂ (λ (x y : ℕ). x + y) (e ∙ t .ranks (n - 1) (omega arith)) f ∙ sym (count-more work (n - 1))

@@ -1,9 +1,8 @@
 -- Records as the slots say them: their widths, and that all of them are the trace. Assumes nothing.
-use mathlib.Core.Path.{_≡_, refl, sym, ap, ap₂, _∙_, subst}
+use mathlib.Core.Path.{_≡_, refl, sym, ap, ap₂, _∙_}
 use mathlib.Core.Bool.{Bool, true, false, cond}
 use mathlib.Core.List.{List, [], _∷_, _++_, map, map-append, append-nil}
 use Prim.Native.Nat.{ℕ, zero, suc, _+_, _*_, _≤_, _<_}
-use native.Mathlib.Nat.{add-zero}
 use native.Mathlib.Numerals.{add-one}
 use native.Mathlib.Omega.{arith}
 use borrow.Author.Tests.{ltb-true}
@@ -16,13 +15,11 @@ use Rattle.model.specs.Graph.{InEdge, temporal, dependency, VersionNode, node-a
 use Rattle.model.specs.Question as question
 use Rattle.model.specs.Trace.{position-in, edges-inside, node-inside, induced-subgraph, trace-versions, trace, trace-letter, entry-letter, one-edge-string, record-string-by, record-string, record-strings, trace-string}
 use Rattle.model.proofs.Strings.{none, num, joined-length}
-use Rattle.model.proofs.Inside.{moved}
 use Rattle.graph.specs.Table.{absent, node-in, nodes-in, columns, Kept, Ready}
-use Rattle.graph.specs.Links.{Starts}
 use Rattle.graph.proofs.Slots.{kept-then, kept-also, kept-first}
 use Rattle.graph.proofs.Nodes.{map-length, node-at-nodes, nodes-kept}
 use Rattle.graph.proofs.Strings.{joined-append, previous-before, source-before}
-use Rattle.trace_writer.specs.Marks.{mark-column, rank-column, is-marked, is-inside, rank-in, members, MarksDone, RanksDone, Ranked, Prepared}
+use Rattle.trace_writer.specs.Marks.{rank-column, is-marked, is-inside, rank-in, members, MarksDone, RanksDone, Ranked, Prepared}
 use Rattle.trace_writer.specs.Texts.{ranked-edges, record-with, slot-string, slot-strings, slots-trace, Width, TraceLength}
 use Rattle.trace_writer.proofs.Marking.{marked-kept, members-same, members-elem}
 use Rattle.trace_writer.proofs.Edges.{and-left, edges-agree}
@@ -38,7 +35,7 @@ width b c = cond b (cond c 22 17) (cond c 18 13)
 abbrev pub some-edges : Bool → Bool → ℕ → ℕ → ℕ → List InEdge
 some-edges b c p k s = cond b (temporal p ∷ []) [] ++ cond c (dependency k s ∷ []) []
 
-pub width-is : (way : question.Way) (work : Bytes) (i : ℕ) (b c : Bool) (p k s : ℕ) → length (record-with way work i (some-edges b c p k s)) ≡ width b c
+width-is : (way : question.Way) (work : Bytes) (i : ℕ) (b c : Bool) (p k s : ℕ) → length (record-with way work i (some-edges b c p k s)) ≡ width b c
 unfolding record-with record-string-by one-edge-string
 width-is way work i true true p k s = ap suc (joined-length (num 4 _ (num 8 _ (num 1 k (num 4 p (num 4 s none))))))
 width-is way work i true false p k s = ap suc (joined-length (num 4 _ (num 8 _ (num 4 p none))))
@@ -199,7 +196,7 @@ module _ (work : Bytes) (n : ℕ) (t : Ranked work n) where
       go true = ap (λ (x : Bytes). strings way (members work i) ++ x) (sym (record-same way i (omega arith))) ∙ sym (strings-snoc way (members work i) i)
       go false = append-nil (strings way (members work i))
 
-  pub trace-by-slots : (way : question.Way) (v : ℕ) → members work n ≡ trace-versions way (nodes-in work n) v
+  trace-by-slots : (way : question.Way) (v : ℕ) → members work n ≡ trace-versions way (nodes-in work n) v
       → slots-trace way work n ≡ trace-string way (trace way (nodes-in work n) v)
   unfolding slots-trace trace-string trace induced-subgraph record-strings ns ms
   trace-by-slots way v e =

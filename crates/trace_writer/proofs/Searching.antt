@@ -1,9 +1,9 @@
 -- The search over the slots: falling for the versions that reach v, rising for those that it reaches. Assumes nothing.
 use mathlib.Core.Path.{_≡_, refl, sym, ap, ap₂, _∙_, subst}
 use mathlib.Core.Bool.{Bool, true, false, cond, _&&_, _||_, or-false, or-comm, or-assoc, and-false}
-use mathlib.Core.List.{List, [], _∷_, _++_, List·Memᴰ, List·Memᴰ·append-cases, List·Memᴰ·eq-of-singleton, List·Memᴰ·cases-cons}
+use mathlib.Core.List.{List, [], _∷_, _++_, List·Memᴰ·append-cases, List·Memᴰ·eq-of-singleton, List·Memᴰ·cases-cons}
 use mathlib.Core.Logic.{_⊎_, inl, inr}
-use Prim.Native.Nat.{ℕ, zero, suc, _+_, _-_, _*_, _≤_, _<_}
+use Prim.Native.Nat.{ℕ, suc, _+_, _-_, _*_, _≤_, _<_}
 use native.Mathlib.Decide.{ℕ-discrete}
 use native.Mathlib.Numerals.{add-one}
 use native.Mathlib.Omega.{arith}
@@ -12,7 +12,7 @@ use lib.Dec.{T, eqb}
 use lib.ListN.{length, drop, drop-of-length-le}
 use lib.Seq.{drop-cons}
 use Rattle.model.specs.Numbers.{Bytes, elem}
-use Rattle.model.specs.Graph.{InEdge, VersionNode, node-at, no-version}
+use Rattle.model.specs.Graph.{VersionNode, node-at, no-version}
 use Rattle.model.specs.Question as question
 use Rattle.model.specs.Question.{backward, forward, trace-of}
 use Rattle.model.specs.Trace.{refers, referred, add-ancestors, ancestors, starts-in, add-descendants, descendants, trace-versions}
@@ -82,7 +82,7 @@ pub record BackTurn (w0 work : Bytes) (n v i : ℕ) : Type 0 where
   pub done : (j : ℕ) → i ≤ j → j < n → is-marked work j ≡ elem j ms
   pub due : (j : ℕ) → j < i → is-marked work j ≡ referred (nodes-in work n) j ms
 
-pub begun-ready : (work w1 : Bytes) (n v : ℕ) → Ready work n → Begun work w1 n v → Ready w1 n
+begun-ready : (work w1 : Bytes) (n v : ℕ) → Ready work n → Begun work w1 n v → Ready w1 n
 begun-ready work w1 n v r b = ready-kept mark-column work w1 n tt (b .kept) r
 
 pub begun-starts : (work w1 : Bytes) (n v : ℕ) → Ready work n → v < n → Begun work w1 n v → Starts w1 v

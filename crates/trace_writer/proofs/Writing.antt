@@ -22,7 +22,7 @@ use Rattle.graph.specs.declared.Way.the-variants.{Backward, Forward}
 use Rattle.graph.specs.Ways.{wayOf}
 use Rattle.graph.proofs.Slots.{Wrote, wrote, and-behind}
 use Rattle.graph.proofs.Strings.{encode-byte, length-name}
-use Rattle.trace_writer.specs.Marks.{is-marked, is-inside, rank-in, members, Ranked, Prepared}
+use Rattle.trace_writer.specs.Marks.{is-marked, is-inside, rank-in, members, Prepared}
 use Rattle.trace_writer.specs.Texts.{ranked-edges, record-with, slot-string, slot-strings, slots-trace, RecordPut, Put, Room, Fits}
 use Rattle.trace_writer.proofs.Edges.{previous-stands, source-stands, inside-there}
 use Rattle.trace_writer.proofs.Searching.{starts-at}
@@ -242,9 +242,6 @@ module _ (way : question.Way) (work : Bytes) (n : ℕ) (out : Bytes) (fit : Fits
       let c = length (members work n) in
       omega (arith, trace-room, length-append (encode 4 c) (slot-strings way work n), length-encode 4 c)
 
-  pub count-asks : Ranked work n × (0 < n)
-  count-asks = (fit .prepared .ranked, omega (arith, fit .prepared .here))
-
   module _ (letter count : ℕ) (o1 : Bytes) (headed : o1 ≡ written (set out 0 letter) 1 (encode 4 count)) where
     header : Wrote out 0 ((letter ∷ []) ++ encode 4 count) 5 o1
     header =
@@ -252,7 +249,7 @@ module _ (way : question.Way) (work : Bytes) (n : ℕ) (out : Bytes) (fit : Fits
         (wrote out 0 (letter ∷ []) 1 (set out 0 letter) refl (omega (arith, records-room)) (set-written out 0 letter (omega (arith, records-room)))) refl
         (length-encode 4 count) (omega (arith, records-room)) headed
 
-    pub header-size : length o1 ≡ length out
+    header-size : length o1 ≡ length out
     header-size = ap length headed ∙ length-written (set out 0 letter) 1 (encode 4 count) (omega (arith, length-set-byte out 0 letter, length-encode 4 count, records-room)) ∙ length-set-byte out 0 letter
 
     pub records-ask : Room way work n (length o1)

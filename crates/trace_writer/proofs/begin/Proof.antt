@@ -2,8 +2,6 @@ use Rattle.trace_writer.proofs.Marking.{begun}
 use borrow.Author.Needs.{needs}
 use Rattle.trace_writer.proofs.begin.Statement.{statement}
 use Rattle.trace_writer.proofs.begin.Tie as tie
-use Rattle.trace_writer.proofs.clear_marks.Reads as clear-marks-reads
-use Rattle.trace_writer.proofs.set_mark.Reads as set-mark-reads
 
 clear-marks-requires : tie.Need-clear-marks-requires
 clear-marks-requires c κs = search needs

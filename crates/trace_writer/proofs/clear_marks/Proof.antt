@@ -3,7 +3,6 @@ use Rattle.trace_writer.proofs.Marking.{Clearing, clearing-none, cleari
 use borrow.Author.Needs.{needs}
 use Rattle.trace_writer.proofs.clear_marks.Statement.{statement}
 use Rattle.trace_writer.proofs.clear_marks.Tie as tie
-use Rattle.trace_writer.proofs.set_mark.Reads as set-mark-reads
 
 abbrev Inv-loop : tie.InvT-loop
 Inv-loop work₀ n i₀ work i = Clearing work₀ work n i

@@ -1,9 +1,7 @@
-use Rattle.trace_writer.proofs.Positions.{last-room, all-counted, count-fits}
+use Rattle.trace_writer.proofs.Positions.{all-counted, count-fits}
 use borrow.Author.Needs.{needs}
 use Rattle.trace_writer.proofs.count_of.Statement.{statement}
 use Rattle.trace_writer.proofs.count_of.Tie as tie
-use Rattle.trace_writer.proofs.rank_of.Reads as rank-of-reads
-use Rattle.trace_writer.proofs.record_count.Reads as record-count-reads
 
 sub-last : tie.Need-sub-last
 sub-last c = search needs

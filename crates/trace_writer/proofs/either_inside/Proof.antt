@@ -2,9 +2,6 @@ use Rattle.trace_writer.proofs.Edges.{previous-stands, source-stands, p
 use borrow.Author.Needs.{needs}
 use Rattle.trace_writer.proofs.either_inside.Statement.{statement}
 use Rattle.trace_writer.proofs.either_inside.Tie as tie
-use Rattle.graph.proofs.previous_of.Reads as previous-of-reads
-use Rattle.graph.proofs.source_of.Reads as source-of-reads
-use Rattle.trace_writer.proofs.inside.Reads as inside-reads
 
 previous-of-requires : tie.Need-previous-of-requires
 previous-of-requires c κs = search needs

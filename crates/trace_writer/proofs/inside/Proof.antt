@@ -2,7 +2,6 @@ use Rattle.trace_writer.proofs.Edges.{inside-absent, inside-present, st
 use Rattle.graph.proofs.Strings.{start-there}
 use Rattle.trace_writer.proofs.inside.Statement.{statement}
 use Rattle.trace_writer.proofs.inside.Tie as tie
-use Rattle.trace_writer.proofs.marked.Reads as marked-reads
 
 returns : tie.Need-returns
 returns c = search inside-absent

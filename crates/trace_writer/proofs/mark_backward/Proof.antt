@@ -2,9 +2,6 @@ use Rattle.trace_writer.proofs.Searching.{BackTurn, begun-starts, back-
 use borrow.Author.Needs.{needs}
 use Rattle.trace_writer.proofs.mark_backward.Statement.{statement}
 use Rattle.trace_writer.proofs.mark_backward.Tie as tie
-use Rattle.trace_writer.proofs.begin.Reads as begin-reads
-use Rattle.trace_writer.proofs.mark_starts.Reads as mark-starts-reads
-use Rattle.trace_writer.proofs.spread.Reads as spread-reads
 
 abbrev Inv-loop : tie.InvT-loop
 Inv-loop work₀ n v i₀ work i = BackTurn work₀ work n v i

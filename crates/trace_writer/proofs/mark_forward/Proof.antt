@@ -3,9 +3,6 @@ use Rattle.trace_writer.proofs.Searching.{ForTurn, for-none, for-starts
 use borrow.Author.Needs.{needs}
 use Rattle.trace_writer.proofs.mark_forward.Statement.{statement}
 use Rattle.trace_writer.proofs.mark_forward.Tie as tie
-use Rattle.trace_writer.proofs.begin.Reads as begin-reads
-use Rattle.trace_writer.proofs.either_inside.Reads as either-inside-reads
-use Rattle.trace_writer.proofs.set_mark.Reads as set-mark-reads
 
 abbrev Inv-loop : tie.InvT-loop
 Inv-loop work₀ n v i₀ work i = ForTurn work₀ work n v i

@@ -3,7 +3,6 @@ use Rattle.graph.proofs.Strings.{start-there}
 use borrow.Author.Needs.{needs}
 use Rattle.trace_writer.proofs.mark_start.Statement.{statement}
 use Rattle.trace_writer.proofs.mark_start.Tie as tie
-use Rattle.trace_writer.proofs.set_mark.Reads as set-mark-reads
 
 returns : tie.Need-returns
 returns c = search start-absent

@@ -2,9 +2,6 @@ use Rattle.trace_writer.proofs.Edges.{previous-stands, source-stands-th
 use borrow.Author.Needs.{needs}
 use Rattle.trace_writer.proofs.mark_starts.Statement.{statement}
 use Rattle.trace_writer.proofs.mark_starts.Tie as tie
-use Rattle.graph.proofs.previous_of.Reads as previous-of-reads
-use Rattle.graph.proofs.source_of.Reads as source-of-reads
-use Rattle.trace_writer.proofs.mark_start.Reads as mark-start-reads
 
 previous-of-requires : tie.Need-previous-of-requires
 previous-of-requires c κs = search needs

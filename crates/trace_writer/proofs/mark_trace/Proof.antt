@@ -2,8 +2,6 @@ use Rattle.trace_writer.proofs.Searching.{done-backward, done-forward}
 use borrow.Author.Needs.{needs}
 use Rattle.trace_writer.proofs.mark_trace.Statement.{statement}
 use Rattle.trace_writer.proofs.mark_trace.Tie as tie
-use Rattle.trace_writer.proofs.mark_backward.Reads as mark-backward-reads
-use Rattle.trace_writer.proofs.mark_forward.Reads as mark-forward-reads
 
 enum-told : tie.Need-enum-told
 enum-told c = search needs

@@ -2,9 +2,6 @@ use Rattle.trace_writer.proofs.Records.{both-kept, is-prepared, prepare
 use borrow.Author.Needs.{needs}
 use Rattle.trace_writer.proofs.prepare.Statement.{statement}
 use Rattle.trace_writer.proofs.prepare.Tie as tie
-use Rattle.trace_writer.proofs.mark_trace.Reads as mark-trace-reads
-use Rattle.trace_writer.proofs.put_ranks.Reads as put-ranks-reads
-use Rattle.trace_writer.proofs.trace_length.Reads as trace-length-reads
 
 mark-trace-requires : tie.Need-mark-trace-requires
 mark-trace-requires c κs = search needs

@@ -2,9 +2,6 @@ use Rattle.trace_writer.proofs.Writing.{dependency-put}
 use borrow.Author.Needs.{needs}
 use Rattle.trace_writer.proofs.put_dependency.Statement.{statement}
 use Rattle.trace_writer.proofs.put_dependency.Tie as tie
-use Rattle.trace_writer.proofs.put_kind.Reads as put-kind-reads
-use Rattle.trace_writer.proofs.put_name.Reads as put-name-reads
-use Rattle.trace_writer.proofs.put_position.Reads as put-position-reads
 
 put-name-requires : tie.Need-put-name-requires
 put-name-requires c κs = search needs

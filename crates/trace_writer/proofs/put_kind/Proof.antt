@@ -2,7 +2,6 @@ use Rattle.trace_writer.proofs.Writing.{kind-put}
 use borrow.Author.Needs.{needs}
 use Rattle.trace_writer.proofs.put_kind.Statement.{statement}
 use Rattle.trace_writer.proofs.put_kind.Tie as tie
-use Rattle.graph.proofs.kind_of.Reads as kind-of-reads
 
 kind-of-requires : tie.Need-kind-of-requires
 kind-of-requires c κs = search needs

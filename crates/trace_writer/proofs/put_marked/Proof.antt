@@ -4,14 +4,6 @@ use Rattle.trace_writer.proofs.Writing.{both-ask, both-done, temporal-a
 use borrow.Author.Needs.{needs}
 use Rattle.trace_writer.proofs.put_marked.Statement.{statement}
 use Rattle.trace_writer.proofs.put_marked.Tie as tie
-use Rattle.graph.proofs.previous_of.Reads as previous-of-reads
-use Rattle.graph.proofs.source_of.Reads as source-of-reads
-use Rattle.trace_writer.proofs.entry_letter.Reads as entry-letter-reads
-use Rattle.trace_writer.proofs.inside.Reads as inside-reads
-use Rattle.trace_writer.proofs.put_both.Reads as put-both-reads
-use Rattle.trace_writer.proofs.put_dependency.Reads as put-dependency-reads
-use Rattle.trace_writer.proofs.put_name.Reads as put-name-reads
-use Rattle.trace_writer.proofs.put_temporal.Reads as put-temporal-reads
 
 previous-of-requires : tie.Need-previous-of-requires
 previous-of-requires c κs = search needs

@@ -4,7 +4,6 @@ use Rattle.trace_writer.proofs.Writing.{length-set-byte, name-size, nam
 use borrow.Author.Needs.{needs}
 use Rattle.trace_writer.proofs.put_name.Statement.{statement}
 use Rattle.trace_writer.proofs.put_name.Tie as tie
-use Rattle.graph.proofs.put_version.Reads as put-version-reads
 
 slice-write-out : tie.Need-slice-write-out
 slice-write-out c = search needs

@@ -2,8 +2,6 @@ use Rattle.trace_writer.proofs.Writing.{position-put}
 use borrow.Author.Needs.{needs}
 use Rattle.trace_writer.proofs.put_position.Statement.{statement}
 use Rattle.trace_writer.proofs.put_position.Tie as tie
-use Rattle.fields.proofs.put_u32.Reads as put-u32-reads
-use Rattle.trace_writer.proofs.rank_of.Reads as rank-of-reads
 
 rank-of-requires : tie.Need-rank-of-requires
 rank-of-requires c κs = search needs

@@ -1,10 +1,8 @@
 use Prim.Native.Nat.{_-_}
-use Rattle.trace_writer.proofs.Positions.{Ranking, ranking-none, ranking-room, ranking-size, ranking-more, rank-fits, ranking-all}
+use Rattle.trace_writer.proofs.Positions.{Ranking, ranking-none, ranking-size, ranking-more, rank-fits, ranking-all}
 use borrow.Author.Needs.{needs}
 use Rattle.trace_writer.proofs.put_ranks.Statement.{statement}
 use Rattle.trace_writer.proofs.put_ranks.Tie as tie
-use Rattle.fields.proofs.put_u32.Reads as put-u32-reads
-use Rattle.trace_writer.proofs.record_count.Reads as record-count-reads
 
 abbrev Inv-loop : tie.InvT-loop
 Inv-loop work₀ n rank₀ i₀ work rank i = Ranking work₀ work n rank i

@@ -3,7 +3,6 @@ use borrow.Author.Needs.{needs}
 use Rattle.trace_writer.proofs.put_record.Statement.{statement}
 use Rattle.trace_writer.proofs.put_record.Tie as tie
 use Rattle.trace_writer.proofs.marked.Reads as marked-reads
-use Rattle.trace_writer.proofs.put_marked.Reads as put-marked-reads
 
 marked-requires : tie.Need-marked-requires
 marked-requires c κs = search needs

@@ -4,7 +4,6 @@ use Rattle.trace_writer.proofs.Writing.{Filling, filling-none, filling-
 use borrow.Author.Needs.{needs}
 use Rattle.trace_writer.proofs.put_records.Statement.{statement}
 use Rattle.trace_writer.proofs.put_records.Tie as tie
-use Rattle.trace_writer.proofs.put_record.Reads as put-record-reads
 
 abbrev Inv-loop : tie.InvT-loop
 Inv-loop way work n out₀ at₀ i₀ out at i = Filling (wayOf way) work n out₀ out at i

@@ -2,7 +2,6 @@ use Rattle.trace_writer.proofs.Positions.{rank-is}
 use borrow.Author.Needs.{needs}
 use Rattle.trace_writer.proofs.rank_of.Statement.{statement}
 use Rattle.trace_writer.proofs.rank_of.Tie as tie
-use Rattle.fields.proofs.get_u32.Reads as get-u32-reads
 
 mul-get-u32 : tie.Need-mul-get-u32
 mul-get-u32 c = search needs

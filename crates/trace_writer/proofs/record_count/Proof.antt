@@ -2,7 +2,6 @@ use Rattle.trace_writer.proofs.Positions.{count-one, count-none}
 use borrow.Author.Needs.{needs}
 use Rattle.trace_writer.proofs.record_count.Statement.{statement}
 use Rattle.trace_writer.proofs.record_count.Tie as tie
-use Rattle.trace_writer.proofs.marked.Reads as marked-reads
 
 marked-requires : tie.Need-marked-requires
 marked-requires c κs = search needs

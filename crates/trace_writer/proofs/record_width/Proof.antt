@@ -3,11 +3,6 @@ use Rattle.trace_writer.proofs.Records.{width-marked, width-unmarked}
 use borrow.Author.Needs.{needs}
 use Rattle.trace_writer.proofs.record_width.Statement.{statement}
 use Rattle.trace_writer.proofs.record_width.Tie as tie
-use Rattle.graph.proofs.previous_of.Reads as previous-of-reads
-use Rattle.graph.proofs.source_of.Reads as source-of-reads
-use Rattle.trace_writer.proofs.inside.Reads as inside-reads
-use Rattle.trace_writer.proofs.marked.Reads as marked-reads
-use Rattle.trace_writer.proofs.width_of.Reads as width-of-reads
 
 marked-requires : tie.Need-marked-requires
 marked-requires c κs = search needs

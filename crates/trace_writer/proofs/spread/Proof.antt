@@ -2,8 +2,6 @@ use Rattle.trace_writer.proofs.Edges.{spread-marked, spread-none}
 use borrow.Author.Needs.{needs}
 use Rattle.trace_writer.proofs.spread.Statement.{statement}
 use Rattle.trace_writer.proofs.spread.Tie as tie
-use Rattle.trace_writer.proofs.mark_starts.Reads as mark-starts-reads
-use Rattle.trace_writer.proofs.marked.Reads as marked-reads
 
 marked-requires : tie.Need-marked-requires
 marked-requires c κs = search needs

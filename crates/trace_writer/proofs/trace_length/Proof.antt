@@ -4,7 +4,6 @@ use Rattle.trace_writer.proofs.Searching.{starts-at}
 use borrow.Author.Needs.{needs}
 use Rattle.trace_writer.proofs.trace_length.Statement.{statement}
 use Rattle.trace_writer.proofs.trace_length.Tie as tie
-use Rattle.trace_writer.proofs.record_width.Reads as record-width-reads
 
 abbrev Inv-loop : tie.InvT-loop
 Inv-loop work n length₀ i₀ length i = Measuring work n length i

@@ -1,13 +1,9 @@
 use denote.Ref.{now}
-use Rattle.trace_writer.proofs.Writing.{length-set-byte, records-room, count-asks, records-ask, trace-size, trace-put}
+use Rattle.trace_writer.proofs.Writing.{length-set-byte, records-room, records-ask, trace-size, trace-put}
 use borrow.Author.Needs.{needs}
 use native.Mathlib.Omega.{arith}
 use Rattle.trace_writer.proofs.write.Statement.{statement}
 use Rattle.trace_writer.proofs.write.Tie as tie
-use Rattle.fields.proofs.put_u32.Reads as put-u32-reads
-use Rattle.graph.proofs.trace_letter.Reads as trace-letter-reads
-use Rattle.trace_writer.proofs.count_of.Reads as count-of-reads
-use Rattle.trace_writer.proofs.put_records.Reads as put-records-reads
 
 trace-letter-requires : tie.Need-trace-letter-requires
 trace-letter-requires c κs = search needs
