@@ -34,8 +34,8 @@ module _ (work : Bytes) (i : ℕ) (s : Starts work i) (p : ℕ) where
   pub source-stands : p ≡ field 2 work (128 * i + 78) → Stands work p
   source-stands e = record { room = λ h. let l = source-before work i s p e h in omega (arith, s .room) }
 
-pub source-stands-then : (work w1 : Bytes) (i p s : ℕ) → Starts work i → s ≡ field 2 work (128 * i + 78) → StartMarked work w1 p → Stands w1 s
-source-stands-then work w1 i p s st e m = let t = source-stands work i st s e in record { room = λ h. let r = t .room h in omega (arith, m .kept .size) }
+pub stands-then : (work w1 : Bytes) (p s : ℕ) → StartMarked work w1 p → Stands work s → Stands w1 s
+stands-then work w1 p s m t = record { room = λ h. let r = t .room h in omega (arith, m .kept .size) }
 
 pub stands-there : (work : Bytes) (p : ℕ) → Stands work p → p < 2 ^ 16 → (p ≡ 65535 → ⊥) → 128 * p + 128 ≤ length work
 stands-there work p s h d = s .room (start-there p h d)

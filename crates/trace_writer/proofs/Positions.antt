@@ -132,8 +132,11 @@ module _ (work : Bytes) (n : ℕ) (t : Ranked work n) (some : 0 < n) where
       ap₂ (λ (x y : ℕ). x + y) (e ∙ t .ranks (n - 1) (omega arith)) f ∙ sym (count-more work (n - 1))
       ∙ ap (λ (k : ℕ). length (members work k)) (let z : suc (n - 1) ≡ n = omega arith in z)
 
-  pub count-fits : (r c : ℕ) → r ≡ rank-in work (n - 1) → c ≡ cond (is-marked work (n - 1)) 1 0 → r + c < 2 ^ 32
-  count-fits r c e f = let z = few-absent n n (t .ready .few) (omega arith) in omega (arith, all-counted r c e f, count-few work n)
+  pub count-fits : (r c : ℕ) (b : Bool) → r ≡ rank-in work (n - 1) → c ≡ cond b 1 0 → r + c < 2 ^ 32
+  count-fits r c b e f =
+      let z = few-absent n n (t .ready .few) (omega arith) in
+      let k = t .ranks (n - 1) (omega arith) in
+      omega (arith, one-at-most b c f, count-few work (n - 1))
 
 -- ---- ranks are positions
 

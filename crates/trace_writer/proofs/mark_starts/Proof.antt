@@ -1,4 +1,4 @@
-use Rattle.trace_writer.proofs.Edges.{previous-stands, source-stands-then, both-marked}
+use Rattle.trace_writer.proofs.Edges.{previous-stands, source-stands, stands-then, both-marked}
 use borrow.Author.Needs.{needs}
 use Rattle.trace_writer.proofs.mark_starts.Statement.{statement}
 use Rattle.trace_writer.proofs.mark_starts.Tie as tie
@@ -13,7 +13,7 @@ mark-start-requires : tie.Need-mark-start-requires
 mark-start-requires c κs = search previous-stands
 
 mark-start-requires-2 : tie.Need-mark-start-requires-2
-mark-start-requires-2 c κs = search source-stands-then
+mark-start-requires-2 c κs = stands-then _ _ _ _ (c .before .before .before .mark-start .ensures) (search (previous-stands, source-stands))
 
 same-length : tie.Need-same-length
 same-length c = search needs
