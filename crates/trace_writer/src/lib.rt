@@ -137,6 +137,7 @@ fn either_inside(work: &[u8], i: usize) -> bool
     inside(work, source_of(work, i))
 }
 
+// In rising order, likewise; the slots before the found version stay cleared.
 fn mark_forward(work: &mut [u8], n: usize, v: usize)
     requires { ⌜ Ready (now work) n × (v < n) ⌝ }
     ensures { λ _. ⌜ MarksDone forward (now (work .entry)) (now (work .exit)) n v ⌝ }
@@ -150,6 +151,7 @@ fn mark_forward(work: &mut [u8], n: usize, v: usize)
     }
 }
 
+// Marks just the versions of the trace.
 fn mark_trace(way: Way, work: &mut [u8], n: usize, v: usize)
     requires { ⌜ Ready (now work) n × (v < n) ⌝ }
     ensures { λ _. ⌜ MarksDone (wayOf way) (now (work .entry)) (now (work .exit)) n v ⌝ }
@@ -212,6 +214,7 @@ fn width_of(previous: bool, source: bool) -> usize
     13
 }
 
+// 0 if the slot's version is not in the trace.
 fn record_width(work: &[u8], i: usize) -> usize
     requires { ⌜ Starts (now work) i ⌝ }
     ensures { λ r. ⌜ Width (now (work .entry)) i r ⌝ }
@@ -224,6 +227,7 @@ fn record_width(work: &[u8], i: usize) -> usize
     0
 }
 
+// The header, and the records of all slots.
 fn trace_length(work: &[u8], n: usize) -> usize
     requires { ⌜ Ready (now work) n ⌝ }
     ensures { λ r. ⌜ TraceLength (now (work .entry)) n r ⌝ }
