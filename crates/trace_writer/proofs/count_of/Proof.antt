@@ -1,0 +1,23 @@
+use Rattle.trace_writer.proofs.Positions.{all-counted, count-fits}
+use borrow.Author.Needs.{needs}
+use Rattle.trace_writer.proofs.count_of.Statement.{statement}
+use Rattle.trace_writer.proofs.count_of.Tie as tie
+
+sub-last : tie.Need-sub-last
+sub-last c = search needs
+
+rank-of-requires : tie.Need-rank-of-requires
+rank-of-requires c κs = search needs
+
+record-count-requires : tie.Need-record-count-requires
+record-count-requires c κs = search needs
+
+add-result : tie.Need-add-result
+add-result c = search count-fits
+
+returns : tie.Need-returns
+returns c = search all-counted
+
+pub count-of-spec : {M : Type 1} → statement M
+count-of-spec =
+    tie.close (tie.spec sub-last rank-of-requires record-count-requires add-result returns)

@@ -1,0 +1,96 @@
+-- The versions of a trace in the node table. Column 81 is the mark, 1 byte: 1 if the slot's version is in the trace. Column 124 is its
+-- rank, 4 bytes: its position among the records. Assumes nothing.
+use mathlib.Core.Path.{_≡_}
+use mathlib.Core.Bool.{Bool, false, cond, _&&_, _||_}
+use mathlib.Core.List.{List, [], _∷_, _++_}
+use Prim.Native.Nat.{ℕ, zero, suc, _+_, _*_, _≤_, _<_}
+use lib.Dec.{eqb, ltb}
+use lib.ListN.{length}
+use Rattle.fields.specs.Fields.{field}
+use Rattle.model.specs.Numbers.{Bytes}
+use Rattle.model.specs.Question as question
+use Rattle.model.specs.Trace.{refers, trace-versions}
+use Rattle.graph.specs.Table.{absent, node-in, nodes-in, Ready, Columns, columns, Kept}
+
+abbrev pub mark-column : List Columns
+mark-column = columns 81 82 ∷ []
+
+abbrev pub rank-column : List Columns
+rank-column = columns 124 128 ∷ []
+
+-- what slot j says
+unfoldable pub is-marked : Bytes → ℕ → Bool
+is-marked work j = eqb (field 1 work (128 * j + 81)) 1
+
+unfoldable pub rank-in : Bytes → ℕ → ℕ
+rank-in work j = field 4 work (128 * j + 124)
+
+-- the marked ones of the first i slots
+unfoldable pub members : Bytes → ℕ → List ℕ
+members work zero = []
+members work (suc i) = cond (is-marked work i) (members work i ++ (i ∷ [])) (members work i)
+
+-- an edge's start stands in the table, if there is such an edge
+pub record Stands (work : Bytes) (p : ℕ) : Type 0 where
+  pub room : p < absent → 128 * p + 128 ≤ length work
+
+-- there is such an edge, and it starts at a marked slot
+unfoldable pub is-inside : Bytes → ℕ → Bool
+is-inside work p = ltb p absent && is-marked work p
+
+-- one of slot i's edges does
+unfoldable pub starts-inside : Bytes → ℕ → Bool
+starts-inside work i = is-inside work (field 2 work (128 * i + 76)) || is-inside work (field 2 work (128 * i + 78))
+
+-- ---- what a routine leaves
+
+pub record MarkSet (work work′ : Bytes) (i : ℕ) (b : Bool) : Type 0 where
+  pub kept : Kept mark-column work work′
+  pub here : is-marked work′ i ≡ b
+  pub others : (j : ℕ) → (j ≡ i → ⊥) → is-marked work′ j ≡ is-marked work j
+
+-- the first n slots are not marked
+pub record Unmarked (work work′ : Bytes) (n : ℕ) : Type 0 where
+  pub kept : Kept mark-column work work′
+  pub none : (j : ℕ) → j < n → is-marked work′ j ≡ false
+
+-- of the first n slots, v is marked
+pub record Begun (work work′ : Bytes) (n v : ℕ) : Type 0 where
+  pub kept : Kept mark-column work work′
+  pub only : (j : ℕ) → j < n → is-marked work′ j ≡ eqb j v
+
+-- the start p of an edge is marked too, if there is such an edge
+pub record StartMarked (work work′ : Bytes) (p : ℕ) : Type 0 where
+  pub kept : Kept mark-column work work′
+  pub is : (j : ℕ) → is-marked work′ j ≡ (is-marked work j || (ltb p absent && eqb p j))
+
+-- the starts of slot i's edges are marked too
+pub record StartsMarked (work work′ : Bytes) (i : ℕ) : Type 0 where
+  pub kept : Kept mark-column work work′
+  pub is : (j : ℕ) → is-marked work′ j ≡ (is-marked work j || refers j (node-in work i .in-edges))
+
+-- they are, if slot i is marked
+pub record Spread (work work′ : Bytes) (i : ℕ) : Type 0 where
+  pub kept : Kept mark-column work work′
+  pub is : (j : ℕ) → is-marked work′ j ≡ (is-marked work j || (is-marked work i && refers j (node-in work i .in-edges)))
+
+-- just the versions of the trace from v are marked
+pub record MarksDone (way : question.Way) (work work′ : Bytes) (n v : ℕ) : Type 0 where
+  pub kept : Kept mark-column work work′
+  pub versions : members work′ n ≡ trace-versions way (nodes-in work n) v
+
+-- every slot has its rank: the number of marked slots before it
+pub record RanksDone (work work′ : Bytes) (n : ℕ) : Type 0 where
+  pub kept : Kept rank-column work work′
+  pub ranks : (j : ℕ) → j < n → rank-in work′ j ≡ length (members work′ j)
+
+-- so it is in a table that is ready
+pub record Ranked (work : Bytes) (n : ℕ) : Type 0 where
+  pub ready : Ready work n
+  pub ranks : (j : ℕ) → j < n → rank-in work j ≡ length (members work j)
+
+-- marks and ranks stand for the trace from the version at v
+pub record Prepared (way : question.Way) (work : Bytes) (n v : ℕ) : Type 0 where
+  pub ranked : Ranked work n
+  pub here : v < n
+  pub versions : members work n ≡ trace-versions way (nodes-in work n) v

@@ -1,0 +1,390 @@
+// The host's trace from a found version, over the node table: the versions in it, its length, its bytes.
+use fields::get_u32;
+use fields::put_u32;
+use graph::ABSENT;
+use graph::Way;
+use graph::kind_of;
+use graph::previous_of;
+use graph::put_version;
+use graph::source_of;
+use graph::trace_letter;
+ghost use mathlib.Core.Path.{_≡_};
+ghost use mathlib.Core.Bool.{cond};
+ghost use mathlib.Core.List.{[], _∷_};
+ghost use Prim.Native.Nat.{ℕ, _+_, _*_, _≤_, _<_};
+ghost use lib.ListN.{length};
+ghost use Rattle.fields.specs.Fields.{encode, field, written};
+ghost use Rattle.model.specs.Graph.{temporal, dependency};
+ghost use Rattle.model.specs.Question.{backward, forward};
+ghost use Rattle.model.specs.Trace.{entry-letter, trace, trace-string};
+ghost use Rattle.graph.specs.Ways.{wayOf};
+ghost use Rattle.graph.specs.Table.{absent, node-in, nodes-in, Ready, columns, Kept};
+ghost use Rattle.graph.specs.Links.{name-string, Starts};
+ghost use Rattle.trace_writer.specs.Marks.{is-marked, rank-in, members, is-inside, starts-inside, Stands, MarkSet, Unmarked, Begun, StartMarked, StartsMarked, Spread, MarksDone, RanksDone, Ranked, Prepared};
+ghost use Rattle.trace_writer.specs.Texts.{ranked-edges, record-with, slot-string, slot-strings, Width, TraceLength, RecordPut, Put, Room, Fits};
+
+// ---- marks
+
+// Whether the version of a slot is in the trace.
+fn marked(work: &[u8], i: usize) -> bool
+    requires { ⌜ 128 * i + 128 ≤ length (now work) ⌝ }
+    ensures { λ r. ⌜ r ≡ is-marked (now (work .entry)) i ⌝ }
+{
+    work[128 * i + 81] == 1
+}
+
+fn set_mark(work: &mut [u8], i: usize, mark: bool)
+    requires { ⌜ 128 * i + 128 ≤ length (now work) ⌝ }
+    ensures { λ _. ⌜ MarkSet (now (work .entry)) (now (work .exit)) i mark ⌝ }
+{
+    if mark {
+        work[128 * i + 81] = 1;
+        return;
+    }
+    work[128 * i + 81] = 0;
+}
+
+fn clear_marks(work: &mut [u8], n: usize)
+    requires { ⌜ 128 * n ≤ length (now work) ⌝ }
+    ensures { λ _. ⌜ Unmarked (now (work .entry)) (now (work .exit)) n ⌝ }
+{
+    let mut i: usize = 0;
+    while i < n {
+        set_mark(work, i, false);
+        i += 1;
+    }
+}
+
+// The found version is in every trace from it, and none else so far.
+fn begin(work: &mut [u8], n: usize, v: usize)
+    requires { ⌜ (128 * n ≤ length (now work)) × (v < n) ⌝ }
+    ensures { λ _. ⌜ Begun (now (work .entry)) (now (work .exit)) n v ⌝ }
+{
+    clear_marks(work, n);
+    set_mark(work, v, true);
+}
+
+// ---- the versions that reach the found one
+
+fn mark_start(work: &mut [u8], start: u16)
+    requires { ⌜ Stands (now work) start ⌝ }
+    ensures { λ _. ⌜ StartMarked (now (work .entry)) (now (work .exit)) start ⌝ }
+{
+    if start == ABSENT {
+        return;
+    }
+    let from = start as usize;
+    set_mark(work, from, true);
+}
+
+fn mark_starts(work: &mut [u8], i: usize)
+    requires { ⌜ Starts (now work) i ⌝ }
+    ensures { λ _. ⌜ StartsMarked (now (work .entry)) (now (work .exit)) i ⌝ }
+{
+    let previous = previous_of(work, i);
+    let source = source_of(work, i);
+    mark_start(work, previous);
+    mark_start(work, source);
+}
+
+// Marks the starts of a slot's edges, if the slot is marked.
+fn spread(work: &mut [u8], i: usize)
+    requires { ⌜ Starts (now work) i ⌝ }
+    ensures { λ _. ⌜ Spread (now (work .entry)) (now (work .exit)) i ⌝ }
+{
+    if marked(work, i) {
+        mark_starts(work, i);
+        return;
+    }
+}
+
+// In falling order: an edge starts at an earlier slot than it ends.
+fn mark_backward(work: &mut [u8], n: usize, v: usize)
+    requires { ⌜ Ready (now work) n × (v < n) ⌝ }
+    ensures { λ _. ⌜ MarksDone backward (now (work .entry)) (now (work .exit)) n v ⌝ }
+{
+    begin(work, n, v);
+    mark_starts(work, v);
+    let mut i = v;
+    while 0 < i {
+        i -= 1;
+        spread(work, i);
+    }
+}
+
+// ---- the versions that the found one reaches
+
+// Whether an edge starts inside: there is such an edge, and its start is in the trace.
+fn inside(work: &[u8], start: u16) -> bool
+    requires { ⌜ Stands (now work) start ⌝ }
+    ensures { λ r. ⌜ r ≡ is-inside (now (work .entry)) start ⌝ }
+{
+    if start == ABSENT {
+        return false;
+    }
+    let from = start as usize;
+    marked(work, from)
+}
+
+// Whether one of a slot's edges does.
+fn either_inside(work: &[u8], i: usize) -> bool
+    requires { ⌜ Starts (now work) i ⌝ }
+    ensures { λ r. ⌜ r ≡ starts-inside (now (work .entry)) i ⌝ }
+{
+    if inside(work, previous_of(work, i)) {
+        return true;
+    }
+    inside(work, source_of(work, i))
+}
+
+// In rising order, likewise; the slots before the found version stay cleared.
+fn mark_forward(work: &mut [u8], n: usize, v: usize)
+    requires { ⌜ Ready (now work) n × (v < n) ⌝ }
+    ensures { λ _. ⌜ MarksDone forward (now (work .entry)) (now (work .exit)) n v ⌝ }
+{
+    begin(work, n, v);
+    let mut i = v + 1;
+    while i < n {
+        let reached = either_inside(work, i);
+        set_mark(work, i, reached);
+        i += 1;
+    }
+}
+
+// Marks just the versions of the trace.
+fn mark_trace(way: Way, work: &mut [u8], n: usize, v: usize)
+    requires { ⌜ Ready (now work) n × (v < n) ⌝ }
+    ensures { λ _. ⌜ MarksDone (wayOf way) (now (work .entry)) (now (work .exit)) n v ⌝ }
+{
+    match way {
+        Way::Backward => mark_backward(work, n, v),
+        Way::Forward => mark_forward(work, n, v),
+    }
+}
+
+// ---- positions
+
+// How many records a slot gives.
+fn record_count(work: &[u8], i: usize) -> u32
+    requires { ⌜ 128 * i + 128 ≤ length (now work) ⌝ }
+    ensures { λ r. ⌜ r ≡ cond (is-marked (now (work .entry)) i) 1 0 ⌝ }
+{
+    if marked(work, i) {
+        return 1;
+    }
+    0
+}
+
+// The position of a slot's record: how many slots before it are marked.
+fn rank_of(work: &[u8], i: usize) -> u32
+    requires { ⌜ 128 * i + 128 ≤ length (now work) ⌝ }
+    ensures { λ r. ⌜ r ≡ rank-in (now (work .entry)) i ⌝ }
+{
+    get_u32(work, 128 * i + 124)
+}
+
+fn put_ranks(work: &mut [u8], n: usize)
+    requires { ⌜ (128 * n ≤ length (now work)) × (n ≤ absent) ⌝ }
+    ensures { λ _. ⌜ RanksDone (now (work .entry)) (now (work .exit)) n ⌝ }
+{
+    let mut rank: u32 = 0;
+    let mut i: usize = 0;
+    while i < n {
+        put_u32(work, 128 * i + 124, rank);
+        rank += record_count(work, i);
+        i += 1;
+    }
+}
+
+// ---- length
+
+// The bytes of a record, by whether its temporal and its dependency edge start inside.
+fn width_of(previous: bool, source: bool) -> usize
+    ensures { λ r. ⌜ r ≡ cond previous (cond source 22 17) (cond source 18 13) ⌝ }
+{
+    if previous {
+        if source {
+            return 22;
+        }
+        return 17;
+    }
+    if source {
+        return 18;
+    }
+    13
+}
+
+// 0 if the slot's version is not in the trace.
+fn record_width(work: &[u8], i: usize) -> usize
+    requires { ⌜ Starts (now work) i ⌝ }
+    ensures { λ r. ⌜ Width (now (work .entry)) i r ⌝ }
+{
+    if marked(work, i) {
+        let previous = inside(work, previous_of(work, i));
+        let source = inside(work, source_of(work, i));
+        return width_of(previous, source);
+    }
+    0
+}
+
+// The header, and the records of all slots.
+fn trace_length(work: &[u8], n: usize) -> usize
+    requires { ⌜ Ready (now work) n ⌝ }
+    ensures { λ r. ⌜ TraceLength (now (work .entry)) n r ⌝ }
+{
+    let mut length: usize = 5;
+    let mut i: usize = 0;
+    while i < n {
+        length += record_width(work, i);
+        i += 1;
+    }
+    length
+}
+
+// Marks the versions of the trace from slot v, gives each its position, and answers the trace's length.
+pub fn prepare(way: Way, work: &mut [u8], n: usize, v: usize) -> usize
+    requires { ⌜ Ready (now work) n × (v < n) ⌝ }
+    ensures prepared { λ _. ⌜ Prepared (wayOf way) (now (work .exit)) n v ⌝ }
+    ensures kept { λ _. ⌜ Kept (columns 81 82 ∷ columns 124 128 ∷ []) (now (work .entry)) (now (work .exit)) ⌝ }
+    ensures bytes { λ r. ⌜ r ≡ length (trace-string (wayOf way) (trace (wayOf way) (nodes-in (now (work .entry)) n) v)) ⌝ }
+{
+    mark_trace(way, work, n, v);
+    put_ranks(work, n);
+    trace_length(work, n)
+}
+
+// ---- a record
+
+// The letter of a record with no position.
+fn entry_letter(way: Way) -> u8
+    ensures { λ r. ⌜ r ≡ entry-letter (wayOf way) ⌝ }
+{
+    match way {
+        Way::Backward => 0x45,
+        Way::Forward => 0x53,
+    }
+}
+
+// The beginning of every record: letter, entity, time.
+fn put_name(letter: u8, work: &[u8], i: usize, out: &mut [u8], at: usize)
+    requires { ⌜ (128 * i + 128 ≤ length (now work)) × (at + 13 ≤ length (now out)) ⌝ }
+    ensures { λ _. ⌜ now (out .exit) ≡ written (now (out .entry)) at (letter ∷ name-string (node-in (now (work .entry)) i)) ⌝ }
+{
+    out[at] = letter;
+    put_version(out, at + 1, work, i);
+}
+
+// The kind of a slot's dependency edge.
+fn put_kind(work: &[u8], i: usize, out: &mut [u8], at: usize)
+    requires { ⌜ (128 * i + 128 ≤ length (now work)) × (at + 1 ≤ length (now out)) ⌝ }
+    ensures { λ _. ⌜ now (out .exit) ≡ written (now (out .entry)) at (encode 1 (field 1 (now (work .entry)) (128 * i + 80))) ⌝ }
+{
+    out[at] = kind_of(work, i);
+}
+
+// The position of an edge's start.
+fn put_position(work: &[u8], start: u16, out: &mut [u8], at: usize)
+    requires { ⌜ (128 * start + 128 ≤ length (now work)) × (at + 4 ≤ length (now out)) ⌝ }
+    ensures { λ _. ⌜ now (out .exit) ≡ written (now (out .entry)) at (encode 4 (rank-in (now (work .entry)) start)) ⌝ }
+{
+    let from = start as usize;
+    put_u32(out, at, rank_of(work, from));
+}
+
+// T: only the temporal edge starts inside.
+fn put_temporal(work: &[u8], i: usize, previous: u16, out: &mut [u8], at: usize)
+    requires { ⌜ (128 * i + 128 ≤ length (now work)) × (128 * previous + 128 ≤ length (now work)) × (at + 17 ≤ length (now out)) ⌝ }
+    ensures { λ _. ⌜ RecordPut (now (work .entry)) i (temporal (rank-in (now (work .entry)) previous) ∷ []) (now (out .entry)) (now (out .exit)) at ⌝ }
+{
+    put_name(0x54, work, i, out, at);
+    put_position(work, previous, out, at + 13);
+}
+
+// D: only the dependency edge starts inside.
+fn put_dependency(work: &[u8], i: usize, source: u16, out: &mut [u8], at: usize)
+    requires { ⌜ (128 * i + 128 ≤ length (now work)) × (128 * source + 128 ≤ length (now work)) × (at + 18 ≤ length (now out)) ⌝ }
+    ensures { λ _. ⌜ RecordPut (now (work .entry)) i (dependency (field 1 (now (work .entry)) (128 * i + 80)) (rank-in (now (work .entry)) source) ∷ []) (now (out .entry)) (now (out .exit)) at ⌝ }
+{
+    put_name(0x44, work, i, out, at);
+    put_kind(work, i, out, at + 13);
+    put_position(work, source, out, at + 14);
+}
+
+// V: both do.
+fn put_both(work: &[u8], i: usize, previous: u16, source: u16, out: &mut [u8], at: usize)
+    requires { ⌜ (128 * i + 128 ≤ length (now work)) × (128 * previous + 128 ≤ length (now work)) × (128 * source + 128 ≤ length (now work)) × (at + 22 ≤ length (now out)) ⌝ }
+    ensures { λ _. ⌜ RecordPut (now (work .entry)) i (temporal (rank-in (now (work .entry)) previous) ∷ dependency (field 1 (now (work .entry)) (128 * i + 80)) (rank-in (now (work .entry)) source) ∷ []) (now (out .entry)) (now (out .exit)) at ⌝ }
+{
+    put_name(0x56, work, i, out, at);
+    put_kind(work, i, out, at + 13);
+    put_position(work, previous, out, at + 14);
+    put_position(work, source, out, at + 18);
+}
+
+// The record of a version in the trace; answers the place behind it.
+fn put_marked(way: Way, work: &[u8], i: usize, out: &mut [u8], at: usize) -> usize
+    requires { ⌜ Starts (now work) i × (at + length (record-with (wayOf way) (now work) i (ranked-edges (now work) i)) ≤ length (now out)) ⌝ }
+    ensures { λ r. ⌜ Put (now (out .entry)) (now (out .exit)) at r (record-with (wayOf way) (now (work .entry)) i (ranked-edges (now (work .entry)) i)) ⌝ }
+{
+    let previous = previous_of(work, i);
+    let source = source_of(work, i);
+    if inside(work, previous) {
+        if inside(work, source) {
+            put_both(work, i, previous, source, out, at);
+            return at + 22;
+        }
+        put_temporal(work, i, previous, out, at);
+        return at + 17;
+    }
+    if inside(work, source) {
+        put_dependency(work, i, source, out, at);
+        return at + 18;
+    }
+    put_name(entry_letter(way), work, i, out, at);
+    at + 13
+}
+
+// The record of a slot, if its version is in the trace.
+fn put_record(way: Way, work: &[u8], i: usize, out: &mut [u8], at: usize) -> usize
+    requires { ⌜ Starts (now work) i × (at + length (slot-string (wayOf way) (now work) i) ≤ length (now out)) ⌝ }
+    ensures { λ r. ⌜ Put (now (out .entry)) (now (out .exit)) at r (slot-string (wayOf way) (now (work .entry)) i) ⌝ }
+{
+    if marked(work, i) {
+        return put_marked(way, work, i, out, at);
+    }
+    at
+}
+
+// ---- the trace
+
+// All records, behind the header.
+fn put_records(way: Way, work: &[u8], n: usize, out: &mut [u8])
+    requires { ⌜ Room (wayOf way) (now work) n (length (now out)) ⌝ }
+    ensures { λ _. ⌜ now (out .exit) ≡ written (now (out .entry)) 5 (slot-strings (wayOf way) (now (work .entry)) n) ⌝ }
+{
+    let mut at: usize = 5;
+    let mut i: usize = 0;
+    while i < n {
+        at = put_record(way, work, i, out, at);
+        i += 1;
+    }
+}
+
+// The number of records.
+fn count_of(work: &[u8], n: usize) -> u32
+    requires { ⌜ Ranked (now work) n × (0 < n) ⌝ }
+    ensures { λ r. ⌜ r ≡ length (members (now (work .entry)) n) ⌝ }
+{
+    let last = n - 1;
+    rank_of(work, last) + record_count(work, last)
+}
+
+// Writes the trace that the table was prepared for to the front of `out`.
+pub fn write(way: Way, work: &[u8], n: usize, out: &mut [u8])
+    requires { ⌜ Fits (wayOf way) (now work) n (length (now out)) ⌝ }
+    ensures { λ _. ⌜ ((v : ℕ) → Prepared (wayOf way) (now (work .entry)) n v → now (out .exit) ≡ written (now (out .entry)) 0 (trace-string (wayOf way) (trace (wayOf way) (nodes-in (now (work .entry)) n) v))) ⌝ }
+{
+    out[0] = trace_letter(way);
+    put_u32(out, 1, count_of(work, n));
+    put_records(way, work, n, out);
+}
