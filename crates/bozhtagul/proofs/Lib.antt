@@ -3,3 +3,4 @@ mod Hashed
 mod LogRead
 mod ListingText
 mod Committed
+mod CheckedAnswer

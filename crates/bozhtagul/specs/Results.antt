@@ -1,8 +1,12 @@
 -- The results of the calls as plain numbers: number 0 where no row turns the call away. Assumes nothing.
 use Prim.Native.Nat.{ℕ}
 use Rattle.model.specs.Result.{Result, ok, refuse}
+use Rattle.model.specs.Question.{Verdict}
+use Rattle.model.specs.CheckRows.{Accepted}
 use Rattle.bozhtagul.specs.declared.Outcome.{Outcome}
 use Rattle.bozhtagul.specs.declared.Written.{Written}
+use Rattle.bozhtagul.specs.declared.Checked.{Checked}
+use Rattle.bozhtagul.specs.declared.Part.{Part}
 
 unfoldable pub outcome : Result (Unit {0}) → Outcome
 outcome (ok u) = record { number = 0; position = 0 }
@@ -12,3 +16,15 @@ outcome (refuse n p) = record { number = n; position = p }
 unfoldable pub written : Result ℕ → Written
 written (ok n) = record { number = 0; position = 0; length = n }
 written (refuse n p) = record { number = n; position = p; length = 0 }
+
+-- the verdict: 1 no entity, 2 not yet, 3 found; 0 where the check refuses
+unfoldable pub checked : Result Verdict → Checked
+checked (ok Verdict.no-entity) = record { number = 0; position = 0; verdict = 1; time = 0; count = 0 }
+checked (ok Verdict.not-yet) = record { number = 0; position = 0; verdict = 2; time = 0; count = 0 }
+checked (ok (Verdict.found t n)) = record { number = 0; position = 0; verdict = 3; time = t; count = n }
+checked (refuse n p) = record { number = n; position = p; verdict = 0; time = 0; count = 0 }
+
+-- where the checked records stand in the answer; 0 and 0 if there are none or the check refuses
+unfoldable pub bounds : Result Accepted → Part
+bounds (ok a) = record { start = a .records-start; length = a .records-length }
+bounds (refuse n p) = record { start = 0; length = 0 }

@@ -1,11 +1,17 @@
 // The public calls as the outside sees them: plain numbers and byte slices.
+use checker::Checking;
 use host::Committing;
 use listing::Listed;
+use log::EntityKey;
 use log::Reading;
+use log::TimeKey;
 use sha256::Hashing;
 ghost use mathlib.Core.Path.{_≡_};
-ghost use Rattle.model.specs.Calls.{hash-call, log-call, listing-call, commitment-call};
-ghost use Rattle.bozhtagul.specs.Results.{outcome, written};
+ghost use lib.ListN.{length};
+ghost use Rattle.model.specs.CheckRows.{run};
+ghost use Rattle.model.specs.Calls.{hash-call, log-call, listing-call, commitment-call, check-call, records-call};
+ghost use Rattle.bozhtagul.specs.Results.{outcome, written, checked, bounds};
+ghost use Rattle.bozhtagul.specs.Demand3.{Sound, Complete};
 
 // The number of the row that turned a call away, or 0, and its position.
 #[repr(C)]
@@ -19,6 +25,23 @@ pub struct Outcome {
 pub struct Written {
     pub number: u64,
     pub position: u64,
+    pub length: u64,
+}
+
+// The same, and the verdict: 0 none, 1 no entity, 2 not yet, 3 found, with the version's time and the number of the trace's records.
+#[repr(C)]
+pub struct Checked {
+    pub number: u64,
+    pub position: u64,
+    pub verdict: u64,
+    pub time: u64,
+    pub count: u64,
+}
+
+// Where a part of the answer stands.
+#[repr(C)]
+pub struct Part {
+    pub start: u64,
     pub length: u64,
 }
 
@@ -38,6 +61,18 @@ fn row_or_length(number: u64, position: u64, length: u64) -> Written
         number: number,
         position: position,
         length: length,
+    }
+}
+
+fn row_or_verdict(number: u64, position: u64, verdict: u64, time: u64, count: u64) -> Checked
+    ensures { λ r. ⌜ r ≡ record { number = number; position = position; verdict = verdict; time = time; count = count } ⌝ }
+{
+    Checked {
+        number: number,
+        position: position,
+        verdict: verdict,
+        time: time,
+        count: count,
     }
 }
 
@@ -86,5 +121,51 @@ pub extern "C" fn bozhtagul_commitment(log: &[u8], work: &mut [u8], out: &mut [u
     match host::commitment(log, work, out) {
         Committing::Written => row(0, 0),
         Committing::Refused { number, position } => row(number, position as u64),
+    }
+}
+
+// Checks an answer, which may be any bytes, against a commitment. The work area takes 128 bytes for each record of the answer's trace and
+// is zero afterwards. `sound` and `complete` are demand 3.
+#[no_mangle]
+pub extern "C" fn bozhtagul_check(
+    direction: u8,
+    entity: u32,
+    time: u64,
+    commitment: &[u8],
+    answer: &[u8],
+    work: &mut [u8],
+) -> Checked
+    ensures sound { λ r. ⌜ Sound direction entity time (now (commitment .entry)) (now (answer .entry)) (now (work .entry)) r ⌝ }
+    ensures complete { λ r. ⌜ Complete direction entity time (now (commitment .entry)) (now (answer .entry)) (now (work .entry)) r ⌝ }
+    ensures result { λ r. ⌜ r ≡ checked (check-call direction entity time (now (commitment .entry)) (now (answer .entry)) (now (work .entry)) .result) ⌝ }
+    ensures cleared { λ _. ⌜ now (work .exit) ≡ check-call direction entity time (now (commitment .entry)) (now (answer .entry)) (now (work .entry)) .work ⌝ }
+{
+    let s = EntityKey(entity as u64);
+    match checker::check(direction, s, TimeKey(time), commitment, answer, work) {
+        Checking::NoEntity => row_or_verdict(0, 0, 1, 0, 0),
+        Checking::NotYet => row_or_verdict(0, 0, 2, 0, 0),
+        Checking::Found { time: found, count } => row_or_verdict(0, 0, 3, found.0, count as u64),
+        Checking::Refused { number, position } => row_or_verdict(number, position as u64, 0, 0, 0),
+    }
+}
+
+// Where the checked records of an answer stand, without the trace header: 0 and 0 if there are none or the check refuses.
+#[no_mangle]
+pub extern "C" fn bozhtagul_records(
+    direction: u8,
+    entity: u32,
+    time: u64,
+    commitment: &[u8],
+    answer: &[u8],
+    work: &mut [u8],
+) -> Part
+    ensures result { λ r. ⌜ r ≡ bounds (run direction entity time (now (commitment .entry)) (now (answer .entry)) (length (now (work .entry)))) ⌝ }
+    ensures cleared { λ _. ⌜ now (work .exit) ≡ records-call direction entity time (now (commitment .entry)) (now (answer .entry)) (now (work .entry)) .work ⌝ }
+{
+    let s = EntityKey(entity as u64);
+    let b = checker::record_bounds(direction, s, TimeKey(time), commitment, answer, work);
+    Part {
+        start: b.start as u64,
+        length: b.length as u64,
     }
 }

@@ -1,0 +1,88 @@
+-- The check's verdict as plain numbers, and demand 3 of what they say. Assumes nothing.
+use mathlib.Core.Path.{_≡_, refl, sym, ap, ap₂, _∙_}
+use Prim.Native.Nat.{ℕ, _*_}
+use native.Mathlib.Omega.{arith}
+use lib.Dec.{le→leb}
+use lib.ListN.{length}
+use Rattle.fields.specs.Fields.{Octets}
+use Rattle.model.specs.Numbers.{Bytes}
+use Rattle.model.specs.Result.{Result, ok, refuse, _>>=_}
+use Rattle.model.specs.Graph.{graph}
+use Rattle.model.specs.Question.{Verdict, count}
+use Rattle.model.specs.CheckRows.{enough, Accepted, run}
+use Rattle.model.specs.Calls.{verdict-of, check-call}
+use Rattle.model.specs.Exact.{true-verdict}
+use Rattle.model.proofs.Outcomes.{bind-eq, need-yes}
+use Rattle.model.proofs.Soundness.{soundness}
+use Rattle.model.proofs.CheckCall.{check-complete}
+use Rattle.model.proofs.RowNumbers.{number-above, run-numbered}
+use Rattle.checker.specs.declared.Checking.{Checking}
+use Rattle.checker.specs.declared.Checking.the-variants.{NoEntity, NotYet, Found, Refused}
+use Rattle.checker.specs.declared.Bounds.{Bounds}
+use Rattle.checker.specs.Runs.{checkingOf, boundsOf}
+use Rattle.bozhtagul.specs.declared.Checked.{Checked}
+use Rattle.bozhtagul.specs.declared.Part.{Part}
+use Rattle.bozhtagul.specs.Results.{checked, bounds}
+use Rattle.bozhtagul.specs.Demand3.{Exact, Sound, Complete}
+
+-- ---- plain numbers
+
+unfoldable pub verdict-numbers : Checking → Checked
+verdict-numbers NoEntity = record { number = 0; position = 0; verdict = 1; time = 0; count = 0 }
+verdict-numbers NotYet = record { number = 0; position = 0; verdict = 2; time = 0; count = 0 }
+verdict-numbers (Found t n) = record { number = 0; position = 0; verdict = 3; time = t .0; count = n }
+verdict-numbers (Refused n p) = record { number = n; position = p; verdict = 0; time = 0; count = 0 }
+
+by-result : (r : Result Verdict) → verdict-numbers (checkingOf r) ≡ checked r
+unfolding verdict-numbers checkingOf checked
+by-result (ok Verdict.no-entity) = refl
+by-result (ok Verdict.not-yet) = refl
+by-result (ok (Verdict.found t n)) = refl
+by-result (refuse n p) = refl
+
+pub check-agrees : (r : Result Verdict) (a b : Checking) → a ≡ checkingOf r → a ≡ b → verdict-numbers b ≡ checked r
+check-agrees r a b e q = ap verdict-numbers (sym q ∙ e) ∙ by-result r
+
+pub bounds-agree : (m : Result Accepted) (b : Bounds) → b ≡ boundsOf m → _≡_ {A = Part} (record { start = b .start; length = b .length }) (bounds m)
+unfolding boundsOf bounds
+bounds-agree m b e = ap (λ (c : Bounds). record { start = c .start; length = c .length }) e ∙ go m
+  where
+    go : (m : Result Accepted) → _≡_ {A = Part} (record { start = boundsOf m .start; length = boundsOf m .length }) (bounds m)
+    go (ok a) = refl
+    go (refuse n p) = refl
+
+-- ---- demand 3
+
+module _ (direction s t : ℕ) (commitment x work : Bytes) (r : Checked) (e : r ≡ checked (check-call direction s t commitment x work .result)) where
+  returned-by : (m : Result Accepted) → run direction s t commitment x (length work) ≡ m → r ≡ checked (verdict-of m)
+  unfolding check-call
+  returned-by m q = e ∙ ap (λ (m : Result Accepted). checked (verdict-of m)) q
+
+  pub sound-of : Octets x → Sound direction s t commitment x work r
+  unfolding checked verdict-of _>>=_
+  sound-of o a h = go (run direction s t commitment x (length work)) refl
+    where
+      go : (m : Result Accepted) → run direction s t commitment x (length work) ≡ m → Exact direction s t commitment x (length work) a r
+      go (ok v) q =
+          record {
+            run-of = v;
+            ran = q;
+            returned = returned-by (ok v) q;
+            demand-3 =
+                soundness (a .log) (a .records) (a .sound) direction s t (a .q) (a .known) x o (length work) v
+                (ap (λ (c : Bytes). run direction s t c x (length work)) (sym (a .of-log)) ∙ q);
+          }
+      go (refuse n p) q =
+          let above = number-above (run direction s t commitment x (length work)) n p q (run-numbered direction s t commitment x (length work)) in
+          let zero : n ≡ 0 = sym (ap (λ (c : Checked). c .number) (returned-by (refuse n p) q)) ∙ h in
+          absurd (let z : ⊥ = omega arith in z)
+
+  pub complete-of : Complete direction s t commitment x work r
+  unfolding enough
+  complete-of a is room =
+      let v = true-verdict (graph (a .records)) (a .q) in
+      e
+      ∙ ap checked
+      (ap₂ (λ (c y : Bytes). check-call direction s t c y work .result) (a .of-log) is
+      ∙ check-complete (a .log) (a .records) (a .sound) direction s t (a .q) (a .known) work
+      ∙ bind-eq (enough (count v) (length work)) (λ _. ok v) tt (need-yes _ _ _ (le→leb (128 * count v) (length work) room)))
