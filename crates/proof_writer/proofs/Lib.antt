@@ -1,0 +1,5 @@
+-- Laws that the proofs of the functions and other crates cite.
+pub mod Descents
+pub mod Seeking
+pub mod Laying
+pub mod Counting

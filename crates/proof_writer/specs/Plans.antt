@@ -1,0 +1,1 @@
+-- What a plan of an answer's proof says. Assumes nothing.
