@@ -2,8 +2,8 @@
 use mathlib.Core.Path.{_≡_, refl, sym, ap, _∙_, subst}
 use mathlib.Core.Logic.{_⊎_, inl, inr}
 use mathlib.Core.Bool.{Bool, true, false, cond}
-use mathlib.Core.List.{List, [], _∷_, _++_, map, List·Memᴰ·head}
-use Prim.Native.Nat.{ℕ, zero, suc, _+_, _-_, _*_, _≤_, _<_}
+use mathlib.Core.List.{List, [], _∷_, _++_, List·Memᴰ·head}
+use Prim.Native.Nat.{ℕ, suc, _+_, _-_, _*_, _≤_, _<_}
 use native.Mathlib.Omega.{arith}
 use borrow.Author.Tests.{ltb-true, ltb-false, eqb-true, eqb-false}
 use lib.Dec.{T, ltb, eqb}
@@ -11,7 +11,7 @@ use lib.ListN.{length, getD, length-append, List·getD-append}
 use lib.Seq.{getD-append-seam}
 use Rattle.fields.specs.Fields.{field}
 use Rattle.fields.proofs.Numbers.{le-or-lt}
-use Rattle.model.specs.Numbers.{Bytes, counting}
+use Rattle.model.specs.Numbers.{Bytes}
 use Rattle.model.specs.Graph.{VersionNode, node-at}
 use Rattle.model.specs.Accumulator.{VersionLeaf, no-leaf, is-entry, version-leaves, leaf-at, of-entity}
 use Rattle.model.proofs.Lists.{Up, up-left, up-cross, up-map-counting, place-in}
@@ -21,7 +21,6 @@ use Rattle.graph.specs.Table.{node-in, version}
 use Rattle.trees.proofs.Leaves.{leaf}
 use Rattle.trees.proofs.EntityWalk.{slot-node, At, at-entry, at-slot, at-few, at-forward, at-next, here-only, ended-only, entry-is, some-version, few-versions}
 use Rattle.proof_writer.specs.declared.Latest.{Latest}
-use Rattle.proof_writer.specs.declared.Versions.{Versions}
 use Rattle.proof_writer.specs.Rows.{Graphed, versions}
 use Rattle.proof_writer.specs.Walks.{latest-of, Counted, VersionsOf, HasVersion, FirstVersion}
 

@@ -2,8 +2,8 @@
 -- descent. Assumes nothing.
 use mathlib.Core.Path.{_≡_, refl, sym, ap, ap₂, _∙_, subst}
 use mathlib.Core.Bool.{Bool, true, false, cond, not}
-use mathlib.Core.List.{List, [], _∷_, _++_, append-assoc, append-nil, map}
-use Prim.Native.Nat.{ℕ, zero, suc, _+_, _-_, _*_, _≤_, _<_}
+use mathlib.Core.List.{List, [], _∷_, _++_, append-assoc, append-nil}
+use Prim.Native.Nat.{ℕ, suc, _+_, _-_, _*_, _≤_, _<_}
 use native.Mathlib.Nat.{add-zero}
 use native.Mathlib.Omega.{arith}
 use borrow.Author.Tests.{lt-ltb, le-ltb}
@@ -13,7 +13,6 @@ use lib.Seq.{length-take-le, getD-append-add, getD-take, getD-drop}
 use Rattle.model.specs.Numbers.{Bytes, joined}
 use Rattle.model.specs.Accumulator.{Subtree as Known, Tree, tip, branch, branch-string, parent, largest-power-below, tree, Layout, subtree, string-of, VersionLeaf}
 use Rattle.model.specs.Question.{SearchEnd, Descent, Opened, stop, after, open-tree}
-use Rattle.model.proofs.Outcomes.{T-eq, F-eq}
 use Rattle.model.proofs.Strings.{H-length}
 use Rattle.model.proofs.Trees.{flat, tree-flat, tree-one, tree-halves}
 use Rattle.model.proofs.Open.{branch-length}
@@ -23,7 +22,6 @@ use Rattle.graph.proofs.Strings.{joined-append}
 use Rattle.accumulator.specs.Halves.{subtree-of, path-to}
 use Rattle.accumulator.proofs.Splitting.{split-bounds, subtree-of-tree, map-take, map-drop}
 use Rattle.accumulator.proofs.Opening.{path-none, path-two}
-use Rattle.proof_writer.specs.declared.Span.{Span}
 use Rattle.proof_writer.specs.Rows.{own}
 use Rattle.proof_writer.specs.Walks.{half-of, onto, Walked}
 
@@ -56,7 +54,7 @@ module _ {A : Type 0} (l : Layout A) (a : A) where
       (sym (getD-append-add (flat s) (flat t) (length (flat t) - 1) a)
       ∙ ap (λ (i : ℕ). getD (flat s ++ flat t) i a) (let z : length (flat s) + (length (flat t) - 1) ≡ length (flat s ++ flat t) - 1 = omega (arith, flat-some t, length-append (flat s) (flat t)) in z))
 
-  digest-32 : (t : Tree A) → length (subtree l t .digest) ≡ 32
+  pub digest-32 : (t : Tree A) → length (subtree l t .digest) ≡ 32
   unfolding subtree parent
   digest-32 (tip x) = H-length (l .string x)
   digest-32 (branch s t) = H-length (branch-string (l .inner-letter) (subtree l s) (subtree l t))
@@ -64,9 +62,6 @@ module _ {A : Type 0} (l : Layout A) (a : A) where
 -- ---- a descent
 
 module _ {A : Type 0} (l : Layout A) (d : Descent) (e : SearchEnd VersionLeaf) (inside : A → Opened) (a : A) (xs : List A) where
-  abbrev opening : List A → Opened
-  opening ys = open-tree l d e inside (tree a ys)
-
   -- it stands at the tree of n leaves from place `from` on, after `depth` strings
   pub record Way (from n depth : ℕ) : Type 0 where
     pub front : List A
@@ -98,9 +93,6 @@ module _ {A : Type 0} (l : Layout A) (d : Descent) (e : SearchEnd VersionLeaf) (
       }
 
   module _ (from n depth : ℕ) (W : Way from n depth) where
-    pub way-inside : from + n ≤ length xs
-    way-inside = omega (arith, ap length (W .whole), length-append (W .front) (W .part ++ W .back), length-append (W .part) (W .back), W .before, W .number)
-
     -- leaf i of the part
     at : (i : ℕ) → i < n → getD (W .part) i a ≡ getD xs (from + i) a
     at i h =

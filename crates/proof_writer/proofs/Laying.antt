@@ -1,23 +1,22 @@
 -- Leaves laid in rows one after the other, and what a table that keeps its other columns still holds. Assumes nothing.
 use mathlib.Core.Path.{_≡_, refl, sym, ap, ap₂, _∙_, subst}
-use mathlib.Core.Bool.{true, false}
+use mathlib.Core.Bool.{true}
 use mathlib.Core.List.{List, [], _∷_, _++_, map, map-append}
 use Prim.Native.Nat.{ℕ, zero, suc, _+_, _*_, _^_, _≤_, _<_}
 use native.Mathlib.Nat.{add-zero, add-suc, suc-add}
 use native.Mathlib.Numerals.{add-one}
 use native.Mathlib.Omega.{arith}
 use lib.Dec.{T, lit≤}
-use lib.ListN.{length, length-map}
+use lib.ListN.{length}
 use Rattle.fields.specs.Fields.{encode, decode, part, field, written}
 use Rattle.fields.proofs.Numbers.{length-encode, decode-encode}
-use Rattle.fields.proofs.Places.{part-all, part-add, length-part}
+use Rattle.fields.proofs.Places.{part-all}
 use Rattle.model.specs.Numbers.{Bytes}
 use Rattle.model.specs.Graph.{VersionNode, node-at}
 use Rattle.model.specs.Accumulator.{Subtree as Known, tip, Layout, subtree, Group, entities-layout, VersionLeaf, versions-layout, is-entry, entities, version-leaves, group, of-entity}
 use Rattle.graph.specs.Table.{node-in, Columns, columns, outside, Kept}
 use Rattle.graph.proofs.Slots.{kept-none, kept-then, digests-kept, kept-written, slot-apart, slot-here}
 use Rattle.graph.proofs.Nodes.{node-kept, nodes-kept, map-length}
-use Rattle.versions.specs.Filled.{Filled}
 use Rattle.accumulator.specs.declared.Subtree.{Subtree}
 use Rattle.accumulator.specs.Trees.{known, version-leaf}
 use Rattle.accumulator.specs.Halves.{leaf-in, leaves-in}
@@ -26,7 +25,7 @@ use Rattle.trees.specs.Tables.{Digested, Entered, Ready, slot-leaf, NextEntry, 
 use Rattle.trees.proofs.Leaves.{leaf}
 use Rattle.trees.proofs.EntityWalk.{leaf-known, At, at-entry, at-slot, at-few, at-known, at-forward, at-next, ended-only, entry-is, some-version, few-versions}
 use Rattle.trees.proofs.EntityList.{eq-T, leaves-none, leaves-more, few-leaves, all-leaves, entities-short}
-use Rattle.proof_writer.specs.Rows.{Graphed, HasGraph, RowPut, own, RowsOf, Laid, groups, versions, EntityRows, VersionRows}
+use Rattle.proof_writer.specs.Rows.{Graphed, RowPut, own, groups, versions, EntityRows, VersionRows}
 
 -- ---- what is kept
 
@@ -61,9 +60,10 @@ graphed-ready work n ns G = record { ns = ns; digested = G .digested; entered = 
 
 -- ---- a row that is put
 
-row : (x : Bytes) (j : ℕ) → leaf-in x (84 + 128 * j) ≡ record { least = decode (part x (128 * j + 84) 8); greatest = decode (part x (128 * j + 84) 8); digest = part x (128 * j + 92) 32 }
+-- a row by its parts
+pub row-at : (x : Bytes) (j : ℕ) → leaf-in x (84 + 128 * j) ≡ record { least = decode (part x (128 * j + 84) 8); greatest = decode (part x (128 * j + 84) 8); digest = part x (128 * j + 92) 32 }
 unfolding leaf-in field
-row x j =
+row-at x j =
     ap₂ {C = Known} (λ (p q : ℕ). record { least = decode (part x p 8); greatest = decode (part x p 8); digest = part x q 32 })
     (let z : 84 + 128 * j ≡ 128 * j + 84 = omega arith in z) (let z : 84 + 128 * j + 8 ≡ 128 * j + 92 = omega arith in z)
 
@@ -99,9 +99,9 @@ row-put work w1 w2 i k wide fits room e1 e2 = record { kept = kept; others = oth
 
     others : (j : ℕ) → (j ≡ i → ⊥) → leaf-in w2 (84 + 128 * j) ≡ leaf-in work (84 + 128 * j)
     others j d =
-        row w2 j
+        row-at w2 j
         ∙ ap₂ {C = Known} (λ (p q : Bytes). record { least = decode p; greatest = decode p; digest = q }) (apart j 84 8 d (lit≤ tt)) (apart j 92 32 d (lit≤ tt))
-        ∙ sym (row work j)
+        ∙ sym (row-at work j)
 
     key-there : part w1 (128 * i + 84) 8 ≡ encode 8 (k .least)
     key-there = ap (λ (x : Bytes). part x (128 * i + 84) 8) e1 ∙ slot-here work i 84 (encode 8 (k .least)) 8 (length-encode 8 (k .least)) room (lit≤ tt)
@@ -115,7 +115,7 @@ row-put work w1 w2 i k wide fits room e1 e2 = record { kept = kept; others = oth
 
     here : leaf-in w2 (84 + 128 * i) ≡ record { least = k .least; greatest = k .least; digest = k .digest }
     here =
-        row w2 i
+        row-at w2 i
         ∙ ap₂ {C = Known} (λ (p : ℕ) (q : Bytes). record { least = p; greatest = p; digest = q }) (ap decode (key-kept ∙ key-there) ∙ decode-encode 8 (k .least) fits) digest-there
 
 -- what a row says of a leaf
@@ -123,7 +123,7 @@ row-known : {A : Type 0} (l : Layout A) (x : A) (k : Subtree) → known k ≡ su
 unfolding known subtree
 row-known l x k h = λ i. record { least = h i .least; greatest = h i .least; digest = h i .digest }
 
-leaves-same : (m m′ : Bytes) (i n : ℕ) → ((j : ℕ) → i ≤ j → j < i + n → leaf-in m′ (84 + 128 * j) ≡ leaf-in m (84 + 128 * j)) → leaves-in m′ 84 128 i n ≡ leaves-in m 84 128 i n
+pub leaves-same : (m m′ : Bytes) (i n : ℕ) → ((j : ℕ) → i ≤ j → j < i + n → leaf-in m′ (84 + 128 * j) ≡ leaf-in m (84 + 128 * j)) → leaves-in m′ 84 128 i n ≡ leaves-in m 84 128 i n
 unfolding leaves-in
 leaves-same m m′ i zero h = refl
 leaves-same m m′ i (suc n) h = ap₂ {C = List Known} (λ (k : Known) (ks : List Known). k ∷ ks) (h i (omega arith) (omega arith)) (leaves-same m m′ (suc i) n (λ j p q. h j (omega arith) (omega arith)))

@@ -3,3 +3,6 @@ pub mod Descents
 pub mod Seeking
 pub mod Laying
 pub mod Counting
+pub mod Planning
+pub mod Writing
+pub mod Outcome

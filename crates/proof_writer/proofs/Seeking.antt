@@ -1,8 +1,8 @@
 -- The walk to an entity by the keys of rows, and the way to a version by its place. Assumes nothing.
 use mathlib.Core.Path.{_≡_, refl, sym, ap, ap₂, _∙_, subst}
 use mathlib.Core.Logic.{_⊎_, inl, inr}
-use mathlib.Core.Bool.{Bool, true, false, cond, not, _||_}
-use mathlib.Core.List.{List, [], _∷_, map}
+use mathlib.Core.Bool.{Bool, true, false, not, _||_}
+use mathlib.Core.List.{List}
 use Prim.Native.Nat.{ℕ, zero, suc, _+_, _-_, _*_, _≤_, _<_}
 use native.Mathlib.Nat.{add-zero, add-suc, suc-add}
 use native.Mathlib.Omega.{arith}
@@ -20,8 +20,8 @@ use Rattle.accumulator.proofs.Splitting.{split-bounds}
 use Rattle.proof_writer.specs.declared.Span.{Span}
 use Rattle.proof_writer.specs.declared.Sought.the-variants.{Absent, Present}
 use Rattle.proof_writer.specs.Rows.{key-in, own, RowsOf}
-use Rattle.proof_writer.specs.Walks.{Among, half-of, EntitySought, absent, present, Nearest, VersionAt}
-use Rattle.proof_writer.proofs.Descents.{Way, way-none, way-inside, way-least, way-greatest, way-stopped, way-leaf, turns-left, left-greatest, right-least, way-half}
+use Rattle.proof_writer.specs.Walks.{Among, half-of, EntitySought, Nearest, VersionAt, DepthIs}
+use Rattle.proof_writer.proofs.Descents.{Way, way-none, way-least, way-greatest, way-stopped, way-leaf, turns-left, left-greatest, right-least, way-half}
 
 -- ---- rows
 
@@ -141,9 +141,13 @@ module _ (work : Bytes) (count s : ℕ) (span : Span) (depth : ℕ) (S : Seeking
         ∙ sym (key (span .from + (largest-power-below (span .n) - 1)) (omega (arith, k .1, S .among .inside, S .among .some-leaf))))
 
   pub seeking-absent : b ≡ true → (gs : List Group) → RowsOf entities-layout work gs count → EntitySought s gs (Absent (span .from) depth)
+  unfolding EntitySought
   seeking-absent h gs R =
-      absent (span .from) depth (omega (arith, S .among .inside, S .among .some-leaf, R .number))
-      (λ f. way-stopped entities-layout (by-entity s) SearchEnd.no-entity f no-group gs (span .from) (span .n) depth (S .way gs R f) (stops-is gs R f ∙ h))
+      record {
+        inside = omega (arith, S .among .inside, S .among .some-leaf, R .number);
+        shallow = omega (arith, S .deep, R .number);
+        walked = λ f. way-stopped entities-layout (by-entity s) SearchEnd.no-entity f no-group gs (span .from) (span .n) depth (S .way gs R f) (stops-is gs R f ∙ h);
+      }
 
   equal : (x y : ℕ) → (ltb s x || ltb y s) ≡ false → x ≡ y → x ≡ s
   equal x y h e = go (ltb s x) refl h
@@ -156,12 +160,18 @@ module _ (work : Bytes) (count s : ℕ) (span : Span) (depth : ℕ) (S : Seeking
       go false p q = omega (arith, ltb-false s x p, ltb-false y s q)
 
   pub seeking-present : b ≡ false → span .n ≤ 1 → (gs : List Group) → RowsOf entities-layout work gs count → EntitySought s gs (Present (span .from) depth)
+  unfolding EntitySought
   seeking-present h g gs R =
       let inside : span .from < count = omega (arith, S .among .inside, S .among .some-leaf) in
       let one : span .from ≡ span .from + (span .n - 1) = omega (arith, S .among .some-leaf) in
-      present (span .from) depth (omega (arith, R .number))
-      (sym (row-key entities-layout no-group work gs count (span .from) R inside) ∙ equal (key-in work (span .from)) (key-in work (span .from + (span .n - 1))) (sym tested ∙ h) (ap (key-in work) one))
-      (λ f. way-leaf entities-layout (by-entity s) SearchEnd.no-entity f no-group gs (span .from) (span .n) depth (S .way gs R f) g (stops-is gs R f ∙ h))
+      record {
+        inside = omega (arith, R .number);
+        shallow = omega (arith, S .deep, R .number);
+        entity =
+            sym (row-key entities-layout no-group work gs count (span .from) R inside)
+            ∙ equal (key-in work (span .from)) (key-in work (span .from + (span .n - 1))) (sym tested ∙ h) (ap (key-in work) one);
+        walked = λ f. way-leaf entities-layout (by-entity s) SearchEnd.no-entity f no-group gs (span .from) (span .n) depth (S .way gs R f) g (stops-is gs R f ∙ h);
+      }
 
   pub seeking-more : b ≡ false → 1 < span .n → (span′ : Span) → span′ ≡ half-of span (leb s (key-in work (span .from + (largest-power-below (span .n) - 1))))
       → Seeking work count s span′ (depth + 1)
@@ -257,8 +267,11 @@ module _ (count target : ℕ) (span : Span) (depth : ℕ) (S : Nearing count tar
       let c = ltb target (span .from + largest-power-below (span .n)) in
       omega (arith, ap (λ (z : Span). z .n) e, half-less count span (S .among) more c)
 
-  pub nearing-leaf : span .n ≤ 1 → (vs : List VersionLeaf) → count ≡ length vs → (t : ℕ) → Nearest t vs target → VersionAt t vs target depth
-  nearing-leaf h vs e t N =
-      let here : span .from ≡ target = omega (arith, S .low, S .high) in
-      subst (λ (j : ℕ). VersionAt t vs j depth) here
-      (record { walked = way-leaf versions-layout (by-time at-or-before t) SearchEnd.not-yet (λ (v : VersionLeaf). stop (SearchEnd.found v)) no-leaf vs (span .from) (span .n) depth (S .way vs e t N) h (goes-on vs e t N) })
+  pub nearing-leaf : span .n ≤ 1 → DepthIs count target depth
+  nearing-leaf h =
+      record {
+        shallow = omega (arith, S .deep);
+        at = λ vs e t N.
+            subst (λ (j : ℕ). VersionAt t vs j depth) (let here : span .from ≡ target = omega (arith, S .low, S .high) in here)
+            (record { walked = way-leaf versions-layout (by-time at-or-before t) SearchEnd.not-yet (λ (v : VersionLeaf). stop (SearchEnd.found v)) no-leaf vs (span .from) (span .n) depth (S .way vs e t N) h (goes-on vs e t N) });
+      }

@@ -1,6 +1,6 @@
 -- The walks through the two trees, over leaves in a row: the half in which a walk goes on, and where it ends. Assumes nothing.
 use mathlib.Core.Path.{_≡_}
-use mathlib.Core.Bool.{Bool, cond, _||_}
+use mathlib.Core.Bool.{Bool, cond}
 use mathlib.Core.List.{List, _++_}
 use Prim.Native.Nat.{ℕ, _+_, _-_, _*_, _≤_, _<_}
 use lib.Dec.{ltb}
@@ -9,7 +9,7 @@ use Rattle.fields.specs.Fields.{field}
 use Rattle.model.specs.Numbers.{Bytes, joined}
 use Rattle.model.specs.Graph.{VersionNode}
 use Rattle.model.specs.Accumulator.{Layout, tree, largest-power-below, VersionLeaf, versions-layout, no-leaf, Group, entities-layout, no-group, leaf-string}
-use Rattle.model.specs.Question.{SearchEnd, Descent, by-entity, by-time, at-or-before, Opened, stop, after, open-tree, open-versions}
+use Rattle.model.specs.Question.{SearchEnd, Descent, by-entity, by-time, at-or-before, Opened, stop, after, open-tree}
 use Rattle.accumulator.specs.Halves.{path-to}
 use Rattle.proof_writer.specs.declared.Span.{Span}
 use Rattle.proof_writer.specs.declared.Sought.{Sought}
@@ -42,14 +42,22 @@ pub record Walked {A : Type 0} (l : Layout A) (d : Descent) (e : SearchEnd Versi
   pub is : open-tree l d e inside (tree a xs) ≡ onto (path-to (l .inner-letter) (own l xs) target depth) w
   pub long : length (joined (path-to (l .inner-letter) (own l xs) target depth)) ≡ 97 * depth
 
--- where an entity is sought in the tree of entities, whatever follows there
-pub data EntitySought (s : ℕ) (gs : List Group) : Sought → Type 0 where
-  absent : (target depth : ℕ) → target < length gs → ((f : Group → Opened) → Walked entities-layout (by-entity s) SearchEnd.no-entity f no-group gs target depth (stop SearchEnd.no-entity))
-      → EntitySought s gs (Absent target depth)
-  present : (target depth : ℕ) → target < length gs → getD gs target no-group .entity ≡ s
-      → ((f : Group → Opened) → Walked entities-layout (by-entity s) SearchEnd.no-entity f no-group gs target depth
-      (after (entities-layout .string (getD gs target no-group)) (f (getD gs target no-group))))
-      → EntitySought s gs (Present target depth)
+-- where an entity is sought in the tree of entities, whatever follows at its leaf
+pub record AbsentIs (s : ℕ) (gs : List Group) (target depth : ℕ) : Type 0 where
+  pub inside : target < length gs
+  pub shallow : depth ≤ length gs
+  pub walked : (f : Group → Opened) → Walked entities-layout (by-entity s) SearchEnd.no-entity f no-group gs target depth (stop SearchEnd.no-entity)
+
+pub record PresentIs (s : ℕ) (gs : List Group) (target depth : ℕ) : Type 0 where
+  pub inside : target < length gs
+  pub shallow : depth ≤ length gs
+  pub entity : getD gs target no-group .entity ≡ s
+  pub walked : (f : Group → Opened) → Walked entities-layout (by-entity s) SearchEnd.no-entity f no-group gs target depth
+      (after (entities-layout .string (getD gs target no-group)) (f (getD gs target no-group)))
+
+unfoldable pub EntitySought : ℕ → List Group → Sought → Type 0
+EntitySought s gs (Absent target depth) = AbsentIs s gs target depth
+EntitySought s gs (Present target depth) = PresentIs s gs target depth
 
 -- ---- the versions of an entity
 
@@ -63,6 +71,10 @@ pub record Nearest (t : ℕ) (vs : List VersionLeaf) (j : ℕ) : Type 0 where
 pub record VersionAt (t : ℕ) (vs : List VersionLeaf) (j depth : ℕ) : Type 0 where
   pub walked : Walked versions-layout (by-time at-or-before t) SearchEnd.not-yet (λ (v : VersionLeaf). stop (SearchEnd.found v)) no-leaf vs j depth
       (after (leaf-string (getD vs j no-leaf .leaf)) (stop (SearchEnd.found (getD vs j no-leaf))))
+
+pub record DepthIs (count j depth : ℕ) : Type 0 where
+  pub shallow : depth ≤ count
+  pub at : (vs : List VersionLeaf) → count ≡ length vs → (t : ℕ) → Nearest t vs j → VersionAt t vs j depth
 
 -- one version more, of which those at or before t are counted
 unfoldable pub latest-of : ℕ → ℕ → ℕ → Latest → Latest

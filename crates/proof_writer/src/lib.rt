@@ -1,19 +1,26 @@
 // The host's writing of an answer's proof: the strings that the walk through the two trees opens, over a node table.
+use accumulator::EntityTree;
 use accumulator::Subtree;
+use accumulator::VersionTree;
 use log::EntityKey;
 use log::TimeKey;
 ghost use mathlib.Core.Path.{_≡_};
 ghost use mathlib.Core.Bool.{_||_};
-ghost use mathlib.Core.List.{List};
+ghost use mathlib.Core.List.{List, [], _∷_, _++_};
 ghost use Prim.Native.Nat.{ℕ, _+_, _-_, _*_, _≤_, _<_};
 ghost use lib.Dec.{T, ltb, leb};
 ghost use lib.ListN.{length};
-ghost use Rattle.fields.specs.Fields.{field};
+ghost use Rattle.fields.specs.Fields.{field, written};
+ghost use Rattle.model.specs.Numbers.{joined};
 ghost use Rattle.model.specs.Graph.{VersionNode, node-at};
-ghost use Rattle.model.specs.Accumulator.{largest-power-below, is-entry, VersionLeaf, Group, entities-layout};
-ghost use Rattle.graph.specs.Table.{node-in};
-ghost use Rattle.proof_writer.specs.Rows.{Graphed, HasGraph, key-in, RowPut, RowsOf, Laid, EntityRows, VersionRows};
-ghost use Rattle.proof_writer.specs.Walks.{Among, half-of, EntitySought, Nearest, VersionAt, latest-of, VersionsOf, HasVersion, FirstVersion};
+ghost use Rattle.model.specs.Accumulator.{largest-power-below, is-entry, Group, entities-layout, leaf-string, root};
+ghost use Rattle.model.specs.Question.{Question};
+ghost use Rattle.model.specs.Answer.{proof};
+ghost use Rattle.graph.specs.Table.{node-in, columns, Kept};
+ghost use Rattle.accumulator.specs.Trees.{headerOf};
+ghost use Rattle.proof_writer.specs.Rows.{Graphed, HasGraph, key-in, RowPut, RowsOf, Laid, EntityRows, VersionRows, version-at};
+ghost use Rattle.proof_writer.specs.Walks.{Among, half-of, EntitySought, DepthIs, latest-of, VersionsOf, HasVersion, FirstVersion};
+ghost use Rattle.proof_writer.specs.Plans.{entity-path, front-bytes, FoundIs, length-of, PathFits, PathIs, Asks, PlanIs, Plan, HasEntity, Reaches, HasPlan, EntityFits, EntityPut};
 
 // ---- rows of leaves
 
@@ -156,7 +163,7 @@ fn seek_entity(work: &[u8], count: usize, entity: EntityKey) -> Sought
 // How many strings N lead to a leaf.
 fn leaf_depth(count: usize, target: usize) -> usize
     requires { ⌜ (target < count) × (count ≤ 65535) ⌝ }
-    ensures { λ r. ⌜ ((vs : List VersionLeaf) → count ≡ length vs → (t : ℕ) → Nearest t vs target → VersionAt t vs target r) ⌝ }
+    ensures { λ r. ⌜ DepthIs count target r ⌝ }
 {
     let mut span = Span { from: 0, n: count };
     let mut depth: usize = 0;
@@ -227,5 +234,227 @@ fn count_versions(work: &[u8], entry: usize, n: usize, time: TimeKey) -> Version
         count: count,
         before: l.before,
         slot: l.slot,
+    }
+}
+
+// ---- the plan
+
+// The walk in the tree of entities: their number, and how many strings P it opens on the way to a leaf.
+pub struct EntityPath {
+    count: usize,
+    target: usize,
+    depth: usize,
+}
+
+// How a proof ends, its length, and what writing it needs: the slot of the entity's first version, the slot of the version found, its
+// place among the entity's versions and how many strings N lead to it.
+pub enum Planned {
+    NoEntity {
+        length: usize,
+        path: EntityPath,
+    },
+    NotYet {
+        length: usize,
+        path: EntityPath,
+        entry: usize,
+    },
+    Found {
+        length: usize,
+        path: EntityPath,
+        entry: usize,
+        slot: usize,
+        index: usize,
+        depth: usize,
+    },
+}
+
+// The plan from the entity's leaf on.
+fn plan_entity(work: &[u8], n: usize, path: EntityPath, entity: EntityKey, time: TimeKey) -> Planned
+    requires { ⌜ HasEntity (now work) n (entity .0) × (path .depth ≤ 65535) ⌝ }
+    ensures { λ r. ⌜ ((ns : List VersionNode) → Graphed (now (work .entry)) n ns → Reaches (now (work .entry)) ns (entity .0) path → PlanIs (now (work .entry)) ns (entity .0) (time .0) r) ⌝ }
+{
+    let entry = first_version(work, n, entity);
+    let v = count_versions(work, entry, n, time);
+    let length = 122 + 97 * path.depth;
+    if v.before == 0 {
+        return Planned::NotYet {
+            length: length,
+            path: path,
+            entry: entry,
+        };
+    }
+    let index = v.before - 1;
+    let depth = leaf_depth(v.count, index);
+    Planned::Found {
+        length: length + (97 * depth + 77),
+        path: path,
+        entry: entry,
+        slot: v.slot,
+        index: index,
+        depth: depth,
+    }
+}
+
+// Lays the leaves of the entities in rows and plans the proof.
+pub fn plan(work: &mut [u8], n: usize, entity: EntityKey, time: TimeKey) -> Planned
+    requires { ⌜ HasGraph (now work) n ⌝ }
+    ensures plan { λ r. ⌜ Plan (now (work .exit)) n (entity .0) (time .0) r ⌝ }
+    ensures kept { λ _. ⌜ Kept (columns 84 124 ∷ []) (now (work .entry)) (now (work .exit)) ⌝ }
+{
+    let count = put_entity_leaves(work, n);
+    match seek_entity(work, count, entity) {
+        Sought::Absent { target, depth } => Planned::NoEntity {
+            length: 65 + 97 * depth,
+            path: EntityPath {
+                count: count,
+                target: target,
+                depth: depth,
+            },
+        },
+        Sought::Present { target, depth } => {
+            let path = EntityPath {
+                count: count,
+                target: target,
+                depth: depth,
+            };
+            plan_entity(work, n, path, entity, time)
+        }
+    }
+}
+
+pub fn proof_length(plan: Planned) -> usize
+    ensures { λ r. ⌜ r ≡ length-of plan ⌝ }
+{
+    match plan {
+        Planned::NoEntity { length, path } => length,
+        Planned::NotYet {
+            length,
+            path,
+            entry,
+        } => length,
+        Planned::Found {
+            length,
+            path,
+            entry,
+            slot,
+            index,
+            depth,
+        } => length,
+    }
+}
+
+// ---- writing
+
+// R and the strings P.
+fn put_front(work: &[u8], n: usize, last: TimeKey, path: EntityPath, out: &mut [u8])
+    requires { ⌜ HasGraph (now work) n × PathFits (now work) path × (65 + 97 * path .depth ≤ length (now out)) ⌝ }
+    ensures { λ _. ⌜ ((ns : List VersionNode) → Graphed (now (work .entry)) n ns → PathIs (now (work .entry)) ns path → now (out .exit) ≡ written (now (out .entry)) 0 (joined (root (headerOf n last) ns ∷ entity-path ns path))) ⌝ }
+{
+    let count = path.count;
+    let tree = accumulator::put_path(
+        0x50,
+        work,
+        84,
+        128,
+        0,
+        count,
+        path.target,
+        path.depth,
+        out,
+        65,
+    );
+    accumulator::put_root(out, 0, count as u32, n as u32, last, EntityTree(tree));
+}
+
+// G of the entity that a version enters, and the strings N on the way to a leaf of its tree. Lays the leaves of its versions in rows.
+fn put_entity(
+    work: &mut [u8],
+    n: usize,
+    entry: usize,
+    index: usize,
+    depth: usize,
+    out: &mut [u8],
+    at: usize,
+)
+    requires { ⌜ EntityFits (now work) n entry index depth (length (now out)) at ⌝ }
+    ensures strings { λ _. ⌜ ((ns : List VersionNode) → Graphed (now (work .entry)) n ns → EntityPut ns (node-at ns entry .entity) index depth (now (out .entry)) (now (out .exit)) at) ⌝ }
+    ensures kept { λ _. ⌜ Kept (columns 84 124 ∷ []) (now (work .entry)) (now (work .exit)) ⌝ }
+{
+    let count = put_version_leaves(work, entry, n);
+    let tree = accumulator::put_path(0x4e, work, 84, 128, 0, count, index, depth, out, at + 57);
+    let entity = graph::entity_of(work, entry);
+    accumulator::put_group(out, at, entity, VersionTree(tree));
+}
+
+// L of the version in a slot.
+fn put_version(work: &[u8], n: usize, slot: usize, out: &mut [u8], at: usize)
+    requires { ⌜ HasGraph (now work) n × (slot < n) × (at + 77 ≤ length (now out)) ⌝ }
+    ensures { λ _. ⌜ ((ns : List VersionNode) → Graphed (now (work .entry)) n ns → now (out .exit) ≡ written (now (out .entry)) at (leaf-string (version-at ns slot .leaf))) ⌝ }
+{
+    let entity = graph::entity_of(work, slot);
+    let time = graph::time_of(work, slot);
+    accumulator::put_leaf(out, at, entity, time, work, 128 * slot, 128 * slot + 32);
+}
+
+// R, the strings P, G and the strings N.
+fn put_walk(
+    work: &mut [u8],
+    n: usize,
+    last: TimeKey,
+    path: EntityPath,
+    entry: usize,
+    index: usize,
+    depth: usize,
+    out: &mut [u8],
+)
+    requires { ⌜ PathFits (now work) path × EntityFits (now work) n entry index depth (length (now out)) (65 + 97 * path .depth) ⌝ }
+    ensures strings { λ _. ⌜ ((ns : List VersionNode) → Graphed (now (work .entry)) n ns → PathIs (now (work .entry)) ns path → now (out .exit) ≡ written (now (out .entry)) 0 (front-bytes (headerOf n last) ns path entry index depth)) ⌝ }
+    ensures kept { λ _. ⌜ Kept (columns 84 124 ∷ []) (now (work .entry)) (now (work .exit)) ⌝ }
+{
+    put_front(work, n, last, path, out);
+    put_entity(work, n, entry, index, depth, out, 65 + 97 * path.depth);
+}
+
+// The same, and L.
+fn put_found(
+    work: &mut [u8],
+    n: usize,
+    last: TimeKey,
+    path: EntityPath,
+    entry: usize,
+    slot: usize,
+    index: usize,
+    depth: usize,
+    out: &mut [u8],
+)
+    requires { ⌜ PathFits (now work) path × EntityFits (now work) n entry index depth (length (now out)) (65 + 97 * path .depth) × (slot < n) × (199 + 97 * path .depth + 97 * depth ≤ length (now out)) ⌝ }
+    ensures strings { λ _. ⌜ ((ns : List VersionNode) → Graphed (now (work .entry)) n ns → PathIs (now (work .entry)) ns path → FoundIs ns (node-at ns entry .entity) entry slot index depth → now (out .exit) ≡ written (now (out .entry)) 0 (front-bytes (headerOf n last) ns path entry index depth ++ leaf-string (version-at ns slot .leaf))) ⌝ }
+    ensures kept { λ _. ⌜ Kept (columns 84 124 ∷ []) (now (work .entry)) (now (work .exit)) ⌝ }
+{
+    put_walk(work, n, last, path, entry, index, depth, out);
+    put_version(work, n, slot, out, 122 + 97 * path.depth + 97 * depth);
+}
+
+// Writes the proof that was planned. Behind it, the rows hold other leaves.
+pub fn write(plan: Planned, work: &mut [u8], n: usize, last: TimeKey, out: &mut [u8])
+    requires { ⌜ HasPlan (now work) n plan × (length-of plan ≤ length (now out)) ⌝ }
+    ensures proof { λ _. ⌜ ((x t : ℕ) → Plan (now (work .entry)) n x t plan → (ns : List VersionNode) → Graphed (now (work .entry)) n ns → (q : Question) → Asks q x t → now (out .exit) ≡ written (now (out .entry)) 0 (joined (proof (headerOf n last) ns q .opened))) ⌝ }
+    ensures kept { λ _. ⌜ Kept (columns 84 124 ∷ []) (now (work .entry)) (now (work .exit)) ⌝ }
+{
+    match plan {
+        Planned::NoEntity { length, path } => put_front(work, n, last, path, out),
+        Planned::NotYet {
+            length,
+            path,
+            entry,
+        } => put_walk(work, n, last, path, entry, 0, 0, out),
+        Planned::Found {
+            length,
+            path,
+            entry,
+            slot,
+            index,
+            depth,
+        } => put_found(work, n, last, path, entry, slot, index, depth, out),
     }
 }
