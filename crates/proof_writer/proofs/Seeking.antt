@@ -78,9 +78,10 @@ pub outside-high : (s x y k m : ℕ) (b c : Bool) → k ≡ x → b ≡ ltb s k 
 outside-high s x y k m b c e t h f u =
     u ∙ ap (λ (z : ℕ). ltb z s) f ∙ ap (λ (d : Bool). d || ltb y s) (sym h ∙ t ∙ ap (ltb s) e)
 
-module _ (work : Bytes) (span : Span) (s k key : ℕ) (b : Bool) (split : k ≡ largest-power-below (span .n)) (read : key ≡ key-in work (span .from + (k - 1))) (tested : b ≡ ltb key s) where
+module _ (work : Bytes) (span : Span) (s k key : ℕ) (b : Bool) (more : 1 < span .n) (split : k ≡ largest-power-below (span .n)) (read : key ≡ key-in work (span .from + k - 1)) (tested : b ≡ ltb key s) where
   greatest-left : key ≡ key-in work (span .from + (largest-power-below (span .n) - 1))
-  greatest-left = read ∙ ap (λ (m : ℕ). key-in work (span .from + (m - 1))) split
+  greatest-left =
+      read ∙ ap (key-in work) (let z : span .from + k - 1 ≡ span .from + (largest-power-below (span .n) - 1) = omega (arith, halves-of (span .n) k more split .0) in z)
 
   pub entity-right : b ≡ true → record { from = span .from + k; n = span .n - k } ≡ half-of span (leb s (key-in work (span .from + (largest-power-below (span .n) - 1))))
   entity-right h =

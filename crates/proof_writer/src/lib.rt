@@ -98,10 +98,13 @@ fn entity_half(work: &[u8], span: Span, entity: EntityKey, count: usize) -> Span
     ensures { λ r. ⌜ r ≡ half-of span (leb (entity .0) (key-in (now (work .entry)) (span .from + (largest-power-below (span .n) - 1)))) ⌝ }
 {
     let k = accumulator::split(span.n);
-    if key_at(work, span.from + (k - 1)).below(entity) {
+    let middle = span.from + k;
+    let rest = span.n - k;
+    let greatest = key_at(work, middle - 1);
+    if greatest.below(entity) {
         return Span {
-            from: span.from + k,
-            n: span.n - k,
+            from: middle,
+            n: rest,
         };
     }
     Span {

@@ -24,14 +24,18 @@ returns c =
     λ ns G R. plan-not-yet (now (s .args .work)) ns _ _ _ R _ (first-entry _ _ _ (s .pre .0) _ (c .before .before .before .before .first-version .ensures) ns G) _ (c .before .before .before .count-versions .ensures ns G) _ refl (c .if1 .taken)
 
 sub-index : tie.Need-sub-index
-sub-index c = search needs
+sub-index c =
+    let s = c .before .before .before .before .before .before .before in
+    let R = s .pre .0 .graph in
+    let some = c .before .before .before .before .count-versions .ensures (R .ns) (R .graphed) .some-version in
+    search needs
 
 leaf-depth-requires : tie.Need-leaf-depth-requires
 leaf-depth-requires c κs =
     let s = c .before .before .before .before .before .before .before in
     let R = s .pre .0 .graph in
     let e = c .before .before .before .before .count-versions .ensures (R .ns) (R .graphed) in
-    (omega (arith, e .number, e .counted .most, c .before .if1 .left), omega (arith, e .few, R .graphed .digested .few))
+    (omega (arith, e .number, e .some-version, e .counted .most, c .before .if1 .left), omega (arith, e .few, R .graphed .digested .few))
 
 mul-t11 : tie.Need-mul-t11
 mul-t11 c =
