@@ -1,6 +1,6 @@
 -- Row 22: which records no later one refers to, by marks put from the last record to the first. Assumes nothing.
 use mathlib.Core.Path.{_≡_, refl, sym, ap, ap₂, _∙_, subst}
-use mathlib.Core.Bool.{Bool, true, false, cond, _||_}
+use mathlib.Core.Bool.{Bool, true, false, cond, _||_, or-comm}
 use mathlib.Core.Option.{Option, none, some}
 use mathlib.Core.List.{List, [], _∷_}
 use Prim.Native.Nat.{ℕ, suc, _+_, _-_, _*_, _≤_, _<_}
@@ -15,12 +15,12 @@ use Rattle.model.specs.CheckRows.{referred-to, first-unreferenced, unreferenced
 use Rattle.graph.specs.declared.Way.{Way as Declared}
 use Rattle.graph.specs.declared.Way.the-variants.{Backward, Forward}
 use Rattle.graph.specs.Ways.{wayOf}
-use Rattle.graph.specs.Table.{nodes-in, columns, Kept, Ready}
+use Rattle.graph.specs.Table.{node-in, nodes-in, columns, Kept, Ready}
 use Rattle.graph.specs.Links.{Starts}
 use Rattle.graph.proofs.Slots.{kept-none, kept-then}
 use Rattle.graph.proofs.Nodes.{length-nodes, nodes-kept}
 use Rattle.graph.proofs.Incoming.{at-node, starts}
-use Rattle.marks.specs.Marks.{marked-in, MarksCleared, StartsMarked}
+use Rattle.marks.specs.Marks.{is-marked, Unmarked, StartsMarked}
 use Rattle.checker.specs.Runs.{place-or, Lowest}
 
 -- ---- marks
@@ -35,7 +35,7 @@ lower-here m t lowest i e h = ap (λ (b : Bool). cond b lowest i) (sym h ∙ e)
 pub record Referring (work work′ : Bytes) (n i lowest : ℕ) : Type 0 where
   pub below : i < n
   pub kept : Kept (columns 81 82 ∷ []) work work′
-  pub marks : (j : ℕ) → j < i → marked-in work′ j ≡ referred-to j (drop i (nodes-in work n))
+  pub marks : (j : ℕ) → j < i → is-marked work′ j ≡ referred-to j (drop i (nodes-in work n))
   pub lowest-is : lowest ≡ place-or n (first-unreferenced i (drop i (nodes-in work n)))
 
 module _ (work : Bytes) (n : ℕ) where
@@ -47,10 +47,11 @@ module _ (work : Bytes) (n : ℕ) where
 
   -- one record more: what has a mark then
   marks-more : (w1 w2 : Bytes) (i : ℕ) → i < n → Kept (columns 81 82 ∷ []) work w1 → StartsMarked w1 w2 i → (j : ℕ)
-      → marked-in w1 j ≡ referred-to j (drop (suc i) (nodes-in work n)) → marked-in w2 j ≡ referred-to j (drop i (nodes-in work n))
+      → is-marked w1 j ≡ referred-to j (drop (suc i) (nodes-in work n)) → is-marked w2 j ≡ referred-to j (drop i (nodes-in work n))
   unfolding referred-to
   marks-more w1 w2 i h k s j e =
-      s .marks j
+      s .is j
+      ∙ or-comm (is-marked w1 j) (refers j (node-in w1 i .in-edges))
       ∙ ap₂ (λ (x : VersionNode) (b : Bool). refers j (x .in-edges) || b) (at-node (columns 81 82 ∷ []) work w1 k tt n i h) e
       ∙ sym (ap (referred-to j) (from i h))
 
@@ -68,7 +69,7 @@ module _ (work : Bytes) (n : ℕ) where
       ap (first-unreferenced i) (from i (omega arith) ∙ ap (λ (l : List VersionNode). node-at ns i ∷ l) (from (suc i) h))
       ∙ sym (ap (λ (l : List VersionNode). cond (referred-to i l) (first-unreferenced (suc i) l) (some i)) (from (suc i) h))
 
-  step : (w1 w2 : Bytes) (i lowest low : ℕ) → Referring work w1 n (suc i) lowest → low ≡ cond (marked-in w1 i) lowest i → StartsMarked w1 w2 i → Referring work w2 n i low
+  step : (w1 w2 : Bytes) (i lowest low : ℕ) → Referring work w1 n (suc i) lowest → low ≡ cond (is-marked w1 i) lowest i → StartsMarked w1 w2 i → Referring work w2 n i low
   step w1 w2 i lowest low r e s =
       let h : suc i < n = r .below in
       let g : i < n = omega arith in
@@ -82,10 +83,10 @@ module _ (work : Bytes) (n : ℕ) where
             ∙ ap (place-or n) (sym (lowest-more i h));
       }
 
-  pub cleared-starts : (w1 : Bytes) → Ready work n → 0 < n → MarksCleared work w1 n → Starts w1 (n - 1)
+  pub cleared-starts : (w1 : Bytes) → Ready work n → 0 < n → Unmarked work w1 n → Starts w1 (n - 1)
   cleared-starts w1 r h c = starts (columns 81 82 ∷ []) work w1 (c .kept) tt n (n - 1) (omega arith) r
 
-  referring-last : (w1 w2 : Bytes) → 0 < n → MarksCleared work w1 n → StartsMarked w1 w2 (n - 1) → Referring work w2 n (n - 1) n
+  referring-last : (w1 w2 : Bytes) → 0 < n → Unmarked work w1 n → StartsMarked w1 w2 (n - 1) → Referring work w2 n (n - 1) n
   unfolding referred-to first-unreferenced place-or
   referring-last w1 w2 h c s =
       let g : n - 1 < n = omega arith in
@@ -108,7 +109,7 @@ module _ (work : Bytes) (n : ℕ) where
     pub turn-starts : Ready work n → 0 < i → Starts w1 (i - 1)
     turn-starts ready h = starts (columns 81 82 ∷ []) work w1 (r .kept) tt n (i - 1) (omega (arith, r .below)) ready
 
-    pub referring-more : (w2 : Bytes) (low : ℕ) → 0 < i → low ≡ cond (marked-in w1 (i - 1)) lowest (i - 1) → StartsMarked w1 w2 (i - 1) → Referring work w2 n (i - 1) low
+    pub referring-more : (w2 : Bytes) (low : ℕ) → 0 < i → low ≡ cond (is-marked w1 (i - 1)) lowest (i - 1) → StartsMarked w1 w2 (i - 1) → Referring work w2 n (i - 1) low
     referring-more w2 low h e s =
         step w1 w2 (i - 1) lowest low (subst (λ (k : ℕ). Referring work w1 n k lowest) (let z : i ≡ suc (i - 1) = omega arith in z) r) e s
 
@@ -124,7 +125,7 @@ pub record Begun (work w2 : Bytes) (n : ℕ) : Type 0 where
   pub first : Referring w2 w2 n (n - 1) n
   pub ready : Ready w2 n
 
-pub begun : (work w1 w2 : Bytes) (n : ℕ) → Ready work n → 0 < n → MarksCleared work w1 n → StartsMarked w1 w2 (n - 1) → Begun work w2 n
+pub begun : (work w1 w2 : Bytes) (n : ℕ) → Ready work n → 0 < n → Unmarked work w1 n → StartsMarked w1 w2 (n - 1) → Begun work w2 n
 begun work w1 w2 n ready h c s =
     let r = referring-last work n w1 w2 h c s in
     let e : nodes-in w2 n ≡ nodes-in work n = nodes-kept (columns 81 82 ∷ []) work w2 (r .kept) tt n in

@@ -18,7 +18,7 @@ ghost use Rattle.model.specs.CheckRows.{stopped, found-position, path-digests, 
 ghost use Rattle.model.specs.Calls.{cleared, check-call, records-call};
 ghost use Rattle.graph.specs.Ways.{wayOf};
 ghost use Rattle.graph.specs.Table.{node-in, nodes-in, Ready};
-ghost use Rattle.marks.specs.Marks.{marked-in};
+ghost use Rattle.marks.specs.Marks.{is-marked};
 ghost use Rattle.trace_reader.specs.Records.{place-in, places-in};
 ghost use Rattle.checker.specs.declared.Checking.the-variants.{Refused};
 ghost use Rattle.checker.specs.Runs.{checkingOf, boundsOf, RunIs, bareRun, leaf-at, found-proof, rowsOf, Lowest, digest-column, PathDigests, trace-in, found-rows, Traced};
@@ -36,7 +36,7 @@ pub enum Checking {
 // i if its slot has no mark, else the lowest so far.
 fn lower(work: &[u8], i: usize, lowest: usize) -> usize
     requires { ⌜ 128 * i + 128 ≤ length (now work) ⌝ }
-    ensures { λ r. ⌜ r ≡ cond (marked-in (now (work .entry)) i) lowest i ⌝ }
+    ensures { λ r. ⌜ r ≡ cond (is-marked (now (work .entry)) i) lowest i ⌝ }
 {
     if marks::marked(work, i) {
         return lowest;

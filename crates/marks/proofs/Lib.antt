@@ -1,2 +1,3 @@
--- What the proofs of the functions cite.
-mod Marking
+-- Laws about marks.
+pub mod Marking
+pub mod Edges

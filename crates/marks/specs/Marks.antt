@@ -1,34 +1,43 @@
--- The marks of the node table's slots. Assumes nothing.
+-- The marks of the node table's slots: 1 at column 81 where there is one. Assumes nothing.
 use mathlib.Core.Path.{_≡_}
-use mathlib.Core.Bool.{Bool, false, _||_, _&&_}
-use mathlib.Core.List.{[], _∷_}
-use Prim.Native.Nat.{ℕ, _+_, _*_, _<_}
+use mathlib.Core.Bool.{Bool, false, _&&_, _||_}
+use mathlib.Core.List.{List, [], _∷_}
+use Prim.Native.Nat.{ℕ, _+_, _*_, _≤_, _<_}
 use lib.Dec.{eqb, ltb}
+use lib.ListN.{length}
 use Rattle.fields.specs.Fields.{field}
 use Rattle.model.specs.Numbers.{Bytes}
 use Rattle.model.specs.Trace.{refers}
-use Rattle.graph.specs.Table.{absent, node-in, columns, Kept}
+use Rattle.graph.specs.Table.{absent, node-in, Columns, columns, Kept}
 
-unfoldable pub marked-in : Bytes → ℕ → Bool
-marked-in work j = eqb (field 1 work (128 * j + 81)) 1
+abbrev pub mark-column : List Columns
+mark-column = columns 81 82 ∷ []
 
--- slot i has a mark (1) or none (0), and all else is as before
-pub record MarkPut (work work′ : Bytes) (i m : ℕ) : Type 0 where
-  pub kept : Kept (columns 81 82 ∷ []) work work′
-  pub here : marked-in work′ i ≡ eqb m 1
-  pub others : (j : ℕ) → (j ≡ i → ⊥) → marked-in work′ j ≡ marked-in work j
+unfoldable pub is-marked : Bytes → ℕ → Bool
+is-marked work j = eqb (field 1 work (128 * j + 81)) 1
 
--- none of the first n slots has one
-pub record MarksCleared (work work′ : Bytes) (n : ℕ) : Type 0 where
-  pub kept : Kept (columns 81 82 ∷ []) work work′
-  pub none : (j : ℕ) → j < n → marked-in work′ j ≡ false
+-- an edge's start stands in the table, if there is such an edge
+pub record Stands (work : Bytes) (p : ℕ) : Type 0 where
+  pub room : p < absent → 128 * p + 128 ≤ length work
 
--- the slot where an edge starts has one too, if there is such an edge
-pub record StartMarked (work work′ : Bytes) (start : ℕ) : Type 0 where
-  pub kept : Kept (columns 81 82 ∷ []) work work′
-  pub marks : (j : ℕ) → marked-in work′ j ≡ ((ltb start absent && eqb start j) || marked-in work j)
+-- ---- what a routine leaves
 
--- those where the edges into slot i start have one too
+pub record MarkSet (work work′ : Bytes) (i : ℕ) (b : Bool) : Type 0 where
+  pub kept : Kept mark-column work work′
+  pub here : is-marked work′ i ≡ b
+  pub others : (j : ℕ) → (j ≡ i → ⊥) → is-marked work′ j ≡ is-marked work j
+
+-- the first n slots are not marked
+pub record Unmarked (work work′ : Bytes) (n : ℕ) : Type 0 where
+  pub kept : Kept mark-column work work′
+  pub none : (j : ℕ) → j < n → is-marked work′ j ≡ false
+
+-- the start p of an edge is marked too, if there is such an edge
+pub record StartMarked (work work′ : Bytes) (p : ℕ) : Type 0 where
+  pub kept : Kept mark-column work work′
+  pub is : (j : ℕ) → is-marked work′ j ≡ (is-marked work j || (ltb p absent && eqb p j))
+
+-- the starts of slot i's edges are marked too
 pub record StartsMarked (work work′ : Bytes) (i : ℕ) : Type 0 where
-  pub kept : Kept (columns 81 82 ∷ []) work work′
-  pub marks : (j : ℕ) → marked-in work′ j ≡ (refers j (node-in work i .in-edges) || marked-in work j)
+  pub kept : Kept mark-column work work′
+  pub is : (j : ℕ) → is-marked work′ j ≡ (is-marked work j || refers j (node-in work i .in-edges))

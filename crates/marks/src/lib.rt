@@ -1,53 +1,53 @@
 // A mark for each slot of the node table, one byte at column 81.
+use graph::ABSENT;
+use graph::previous_of;
+use graph::source_of;
 ghost use mathlib.Core.Path.{_≡_};
-ghost use Prim.Native.Nat.{_+_, _*_, _≤_, _<_};
+ghost use Prim.Native.Nat.{_+_, _*_, _≤_};
 ghost use lib.ListN.{length};
-ghost use Rattle.graph.specs.Table.{absent};
 ghost use Rattle.graph.specs.Links.{Starts};
-ghost use Rattle.marks.specs.Marks.{marked-in, MarksCleared, MarkPut, StartMarked, StartsMarked};
+ghost use Rattle.marks.specs.Marks.{is-marked, Stands, MarkSet, Unmarked, StartMarked, StartsMarked};
 
 pub fn marked(work: &[u8], i: usize) -> bool
     requires { ⌜ 128 * i + 128 ≤ length (now work) ⌝ }
-    ensures { λ r. ⌜ r ≡ marked-in (now (work .entry)) i ⌝ }
+    ensures { λ r. ⌜ r ≡ is-marked (now (work .entry)) i ⌝ }
 {
     work[128 * i + 81] == 1
 }
 
-pub fn mark(work: &mut [u8], i: usize)
+pub fn set_mark(work: &mut [u8], i: usize, mark: bool)
     requires { ⌜ 128 * i + 128 ≤ length (now work) ⌝ }
-    ensures { λ _. ⌜ MarkPut (now (work .entry)) (now (work .exit)) i 1 ⌝ }
+    ensures { λ _. ⌜ MarkSet (now (work .entry)) (now (work .exit)) i mark ⌝ }
 {
-    work[128 * i + 81] = 1;
-}
-
-fn unmark(work: &mut [u8], i: usize)
-    requires { ⌜ 128 * i + 128 ≤ length (now work) ⌝ }
-    ensures { λ _. ⌜ MarkPut (now (work .entry)) (now (work .exit)) i 0 ⌝ }
-{
+    if mark {
+        work[128 * i + 81] = 1;
+        return;
+    }
     work[128 * i + 81] = 0;
 }
 
 // Takes the marks off the first n slots.
 pub fn clear_marks(work: &mut [u8], n: usize)
     requires { ⌜ 128 * n ≤ length (now work) ⌝ }
-    ensures { λ _. ⌜ MarksCleared (now (work .entry)) (now (work .exit)) n ⌝ }
+    ensures { λ _. ⌜ Unmarked (now (work .entry)) (now (work .exit)) n ⌝ }
 {
     let mut i: usize = 0;
     while i < n {
-        unmark(work, i);
+        set_mark(work, i, false);
         i += 1;
     }
 }
 
 // Marks where an edge starts, if there is such an edge.
 fn mark_start(work: &mut [u8], start: u16)
-    requires { ⌜ (start < absent → 128 * start + 128 ≤ length (now work)) ⌝ }
+    requires { ⌜ Stands (now work) start ⌝ }
     ensures { λ _. ⌜ StartMarked (now (work .entry)) (now (work .exit)) start ⌝ }
 {
-    if start == graph::ABSENT {
+    if start == ABSENT {
         return;
     }
-    mark(work, start as usize);
+    let from = start as usize;
+    set_mark(work, from, true);
 }
 
 // Marks the slots where the edges into a slot start.
@@ -55,8 +55,8 @@ pub fn mark_starts(work: &mut [u8], i: usize)
     requires { ⌜ Starts (now work) i ⌝ }
     ensures { λ _. ⌜ StartsMarked (now (work .entry)) (now (work .exit)) i ⌝ }
 {
-    let previous = graph::previous_of(work, i);
-    let source = graph::source_of(work, i);
+    let previous = previous_of(work, i);
+    let source = source_of(work, i);
     mark_start(work, previous);
     mark_start(work, source);
 }

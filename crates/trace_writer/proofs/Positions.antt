@@ -19,8 +19,10 @@ use Rattle.model.specs.Trace.{position-in}
 use Rattle.model.proofs.Lists.{_among_}
 use Rattle.graph.specs.Table.{absent, Kept}
 use Rattle.graph.proofs.Slots.{kept-none, kept-then, kept-written, field-apart-slot}
-use Rattle.trace_writer.specs.Marks.{rank-column, is-marked, rank-in, members, RanksDone, Ranked}
-use Rattle.trace_writer.proofs.Marking.{marked-kept, members-same, members-below}
+use Rattle.marks.specs.Marks.{is-marked}
+use Rattle.trace_writer.specs.Marks.{rank-column, rank-in, members, RanksDone, Ranked}
+use Rattle.marks.proofs.Marking.{marked-kept}
+use Rattle.trace_writer.proofs.Marking.{members-same, members-below}
 
 pub count-one : (work : Bytes) (i : ℕ) (b : Bool) → b ≡ is-marked work i → b ≡ true → _≡_ {A = ℕ} 1 (cond (is-marked work i) 1 0)
 count-one work i b e t = ap {B = ℕ} (λ (x : Bool). cond x 1 0) (sym t ∙ e)

@@ -19,9 +19,11 @@ use Rattle.graph.specs.Table.{absent, node-in, nodes-in, columns, Kept, Ready}
 use Rattle.graph.proofs.Slots.{kept-then, kept-also, kept-first}
 use Rattle.graph.proofs.Nodes.{map-length, node-at-nodes, nodes-kept}
 use Rattle.graph.proofs.Strings.{joined-append, previous-before, source-before}
-use Rattle.trace_writer.specs.Marks.{rank-column, is-marked, is-inside, rank-in, members, MarksDone, RanksDone, Ranked, Prepared}
+use Rattle.marks.specs.Marks.{is-marked}
+use Rattle.trace_writer.specs.Marks.{rank-column, is-inside, rank-in, members, MarksDone, RanksDone, Ranked, Prepared}
 use Rattle.trace_writer.specs.Texts.{ranked-edges, record-with, slot-string, slot-strings, slots-trace, Width, TraceLength}
-use Rattle.trace_writer.proofs.Marking.{marked-kept, members-same, members-elem}
+use Rattle.marks.proofs.Marking.{marked-kept}
+use Rattle.trace_writer.proofs.Marking.{members-same, members-elem}
 use Rattle.trace_writer.proofs.Edges.{and-left, edges-agree}
 use Rattle.trace_writer.proofs.Searching.{ready-kept, starts-at}
 use Rattle.trace_writer.proofs.Positions.{position-members}

@@ -28,7 +28,8 @@ use Rattle.graph.specs.Ways.{wayOf}
 use Rattle.graph.proofs.Slots.{kept-none, kept-then}
 use Rattle.graph.proofs.Nodes.{length-nodes, node-at-nodes, node-kept, nodes-kept}
 use Rattle.graph.proofs.Incoming.{starts}
-use Rattle.trace_writer.specs.Marks.{mark-column, is-marked, starts-inside, MarkSet, Begun, StartsMarked, Spread, MarksDone}
+use Rattle.marks.specs.Marks.{mark-column, is-marked, MarkSet, StartsMarked}
+use Rattle.trace_writer.specs.Marks.{starts-inside, Begun, Spread, MarksDone}
 use Rattle.trace_writer.proofs.Marking.{no-T, members-are}
 use Rattle.trace_writer.proofs.Edges.{starts-agree}
 

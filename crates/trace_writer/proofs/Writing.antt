@@ -22,9 +22,11 @@ use Rattle.graph.specs.declared.Way.the-variants.{Backward, Forward}
 use Rattle.graph.specs.Ways.{wayOf}
 use Rattle.graph.proofs.Slots.{Wrote, wrote, and-behind}
 use Rattle.graph.proofs.Strings.{encode-byte, length-name}
-use Rattle.trace_writer.specs.Marks.{is-marked, is-inside, rank-in, members, Prepared}
+use Rattle.marks.specs.Marks.{is-marked}
+use Rattle.trace_writer.specs.Marks.{is-inside, rank-in, members, Prepared}
 use Rattle.trace_writer.specs.Texts.{ranked-edges, record-with, slot-string, slot-strings, slots-trace, RecordPut, Put, Room, Fits}
-use Rattle.trace_writer.proofs.Edges.{previous-stands, source-stands, inside-there}
+use Rattle.marks.proofs.Edges.{previous-stands, source-stands}
+use Rattle.trace_writer.proofs.Edges.{inside-there}
 use Rattle.trace_writer.proofs.Searching.{starts-at}
 use Rattle.trace_writer.proofs.Records.{width, some-edges, Tested, tested, edges-are, record-width-is, slot-marked, slot-unmarked, trace-is}
 

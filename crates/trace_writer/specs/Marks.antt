@@ -1,27 +1,22 @@
--- The versions of a trace in the node table. Column 81 is the mark, 1 byte: 1 if the slot's version is in the trace. Column 124 is its
--- rank, 4 bytes: its position among the records. Assumes nothing.
+-- The versions of a trace in the node table: their slots have a mark. Column 124 is a version's rank, 4 bytes: its position among the
+-- records. Assumes nothing.
 use mathlib.Core.Path.{_≡_}
-use mathlib.Core.Bool.{Bool, false, cond, _&&_, _||_}
+use mathlib.Core.Bool.{Bool, cond, _&&_, _||_}
 use mathlib.Core.List.{List, [], _∷_, _++_}
-use Prim.Native.Nat.{ℕ, zero, suc, _+_, _*_, _≤_, _<_}
+use Prim.Native.Nat.{ℕ, zero, suc, _+_, _*_, _<_}
 use lib.Dec.{eqb, ltb}
 use lib.ListN.{length}
 use Rattle.fields.specs.Fields.{field}
 use Rattle.model.specs.Numbers.{Bytes}
 use Rattle.model.specs.Question as question
 use Rattle.model.specs.Trace.{refers, trace-versions}
+use Rattle.marks.specs.Marks.{mark-column, is-marked}
 use Rattle.graph.specs.Table.{absent, node-in, nodes-in, Ready, Columns, columns, Kept}
-
-abbrev pub mark-column : List Columns
-mark-column = columns 81 82 ∷ []
 
 abbrev pub rank-column : List Columns
 rank-column = columns 124 128 ∷ []
 
 -- what slot j says
-unfoldable pub is-marked : Bytes → ℕ → Bool
-is-marked work j = eqb (field 1 work (128 * j + 81)) 1
-
 unfoldable pub rank-in : Bytes → ℕ → ℕ
 rank-in work j = field 4 work (128 * j + 124)
 
@@ -29,10 +24,6 @@ rank-in work j = field 4 work (128 * j + 124)
 unfoldable pub members : Bytes → ℕ → List ℕ
 members work zero = []
 members work (suc i) = cond (is-marked work i) (members work i ++ (i ∷ [])) (members work i)
-
--- an edge's start stands in the table, if there is such an edge
-pub record Stands (work : Bytes) (p : ℕ) : Type 0 where
-  pub room : p < absent → 128 * p + 128 ≤ length work
 
 -- there is such an edge, and it starts at a marked slot
 unfoldable pub is-inside : Bytes → ℕ → Bool
@@ -44,30 +35,10 @@ starts-inside work i = is-inside work (field 2 work (128 * i + 76)) || is-inside
 
 -- ---- what a routine leaves
 
-pub record MarkSet (work work′ : Bytes) (i : ℕ) (b : Bool) : Type 0 where
-  pub kept : Kept mark-column work work′
-  pub here : is-marked work′ i ≡ b
-  pub others : (j : ℕ) → (j ≡ i → ⊥) → is-marked work′ j ≡ is-marked work j
-
--- the first n slots are not marked
-pub record Unmarked (work work′ : Bytes) (n : ℕ) : Type 0 where
-  pub kept : Kept mark-column work work′
-  pub none : (j : ℕ) → j < n → is-marked work′ j ≡ false
-
 -- of the first n slots, v is marked
 pub record Begun (work work′ : Bytes) (n v : ℕ) : Type 0 where
   pub kept : Kept mark-column work work′
   pub only : (j : ℕ) → j < n → is-marked work′ j ≡ eqb j v
-
--- the start p of an edge is marked too, if there is such an edge
-pub record StartMarked (work work′ : Bytes) (p : ℕ) : Type 0 where
-  pub kept : Kept mark-column work work′
-  pub is : (j : ℕ) → is-marked work′ j ≡ (is-marked work j || (ltb p absent && eqb p j))
-
--- the starts of slot i's edges are marked too
-pub record StartsMarked (work work′ : Bytes) (i : ℕ) : Type 0 where
-  pub kept : Kept mark-column work work′
-  pub is : (j : ℕ) → is-marked work′ j ≡ (is-marked work j || refers j (node-in work i .in-edges))
 
 -- they are, if slot i is marked
 pub record Spread (work work′ : Bytes) (i : ℕ) : Type 0 where

@@ -10,7 +10,8 @@ use Rattle.model.specs.Graph.{InEdge, temporal, dependency}
 use Rattle.model.specs.Question as question
 use Rattle.model.specs.Trace.{trace-letter, entry-letter, record-string-by, trace, trace-string}
 use Rattle.graph.specs.Table.{node-in, nodes-in, Ready}
-use Rattle.trace_writer.specs.Marks.{is-marked, is-inside, members, rank-in, Prepared}
+use Rattle.marks.specs.Marks.{is-marked}
+use Rattle.trace_writer.specs.Marks.{is-inside, members, rank-in, Prepared}
 
 -- slot i's edges that start inside, by the ranks of their starts
 unfoldable pub ranked-edges : Bytes → ℕ → List InEdge

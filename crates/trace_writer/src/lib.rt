@@ -8,6 +8,10 @@ use graph::previous_of;
 use graph::put_version;
 use graph::source_of;
 use graph::trace_letter;
+use marks::clear_marks;
+use marks::mark_starts;
+use marks::marked;
+use marks::set_mark;
 ghost use mathlib.Core.Path.{_≡_};
 ghost use mathlib.Core.Bool.{cond};
 ghost use mathlib.Core.List.{[], _∷_};
@@ -20,40 +24,11 @@ ghost use Rattle.model.specs.Trace.{entry-letter, trace, trace-string};
 ghost use Rattle.graph.specs.Ways.{wayOf};
 ghost use Rattle.graph.specs.Table.{absent, node-in, nodes-in, Ready, columns, Kept};
 ghost use Rattle.graph.specs.Links.{name-string, Starts};
-ghost use Rattle.trace_writer.specs.Marks.{is-marked, rank-in, members, is-inside, starts-inside, Stands, MarkSet, Unmarked, Begun, StartMarked, StartsMarked, Spread, MarksDone, RanksDone, Ranked, Prepared};
+ghost use Rattle.marks.specs.Marks.{is-marked, Stands};
+ghost use Rattle.trace_writer.specs.Marks.{rank-in, members, is-inside, starts-inside, Begun, Spread, MarksDone, RanksDone, Ranked, Prepared};
 ghost use Rattle.trace_writer.specs.Texts.{ranked-edges, record-with, slot-string, slot-strings, Width, TraceLength, RecordPut, Put, Room, Fits};
 
-// ---- marks
-
-// Whether the version of a slot is in the trace.
-fn marked(work: &[u8], i: usize) -> bool
-    requires { ⌜ 128 * i + 128 ≤ length (now work) ⌝ }
-    ensures { λ r. ⌜ r ≡ is-marked (now (work .entry)) i ⌝ }
-{
-    work[128 * i + 81] == 1
-}
-
-fn set_mark(work: &mut [u8], i: usize, mark: bool)
-    requires { ⌜ 128 * i + 128 ≤ length (now work) ⌝ }
-    ensures { λ _. ⌜ MarkSet (now (work .entry)) (now (work .exit)) i mark ⌝ }
-{
-    if mark {
-        work[128 * i + 81] = 1;
-        return;
-    }
-    work[128 * i + 81] = 0;
-}
-
-fn clear_marks(work: &mut [u8], n: usize)
-    requires { ⌜ 128 * n ≤ length (now work) ⌝ }
-    ensures { λ _. ⌜ Unmarked (now (work .entry)) (now (work .exit)) n ⌝ }
-{
-    let mut i: usize = 0;
-    while i < n {
-        set_mark(work, i, false);
-        i += 1;
-    }
-}
+// ---- the found version
 
 // The found version is in every trace from it, and none else so far.
 fn begin(work: &mut [u8], n: usize, v: usize)
@@ -65,27 +40,6 @@ fn begin(work: &mut [u8], n: usize, v: usize)
 }
 
 // ---- the versions that reach the found one
-
-fn mark_start(work: &mut [u8], start: u16)
-    requires { ⌜ Stands (now work) start ⌝ }
-    ensures { λ _. ⌜ StartMarked (now (work .entry)) (now (work .exit)) start ⌝ }
-{
-    if start == ABSENT {
-        return;
-    }
-    let from = start as usize;
-    set_mark(work, from, true);
-}
-
-fn mark_starts(work: &mut [u8], i: usize)
-    requires { ⌜ Starts (now work) i ⌝ }
-    ensures { λ _. ⌜ StartsMarked (now (work .entry)) (now (work .exit)) i ⌝ }
-{
-    let previous = previous_of(work, i);
-    let source = source_of(work, i);
-    mark_start(work, previous);
-    mark_start(work, source);
-}
 
 // Marks the starts of a slot's edges, if the slot is marked.
 fn spread(work: &mut [u8], i: usize)

@@ -1,7 +1,6 @@
-use Rattle.marks.proofs.Marking.{Clearing, clearing-none, clearing-more, clearing-all}
 use Prim.Native.Nat.{_-_}
+use Rattle.marks.proofs.Marking.{Clearing, clearing-none, clearing-more, clearing-size, clearing-all}
 use borrow.Author.Needs.{needs}
-use native.Mathlib.Omega.{arith}
 use Rattle.marks.proofs.clear_marks.Statement.{statement}
 use Rattle.marks.proofs.clear_marks.Tie as tie
 
@@ -14,8 +13,8 @@ abbrev μ-loop : tie.MeasureT-loop
 loop-holds : tie.Need-loop-holds Inv-loop μ-loop
 loop-holds c = search clearing-none
 
-unmark-requires : tie.Need-unmark-requires Inv-loop μ-loop
-unmark-requires c κs = search (needs, arith)
+set-mark-requires : tie.Need-set-mark-requires Inv-loop μ-loop
+set-mark-requires c κs = search needs
 
 add-i : tie.Need-add-i Inv-loop μ-loop
 add-i c = search needs
@@ -27,7 +26,7 @@ loop-again : tie.Need-loop-again Inv-loop μ-loop
 loop-again c = search clearing-more
 
 same-length : tie.Need-same-length Inv-loop μ-loop
-same-length c = c .before .loop .inv .cleared .kept .size
+same-length c = search clearing-size
 
 returns : tie.Need-returns Inv-loop μ-loop
 returns c = search clearing-all
@@ -39,7 +38,7 @@ clear-marks-spec =
     Inv-loop
     μ-loop
     loop-holds
-    unmark-requires
+    set-mark-requires
     add-i
     loop-less
     loop-again

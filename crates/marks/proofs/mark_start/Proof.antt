@@ -1,19 +1,20 @@
-use Rattle.marks.proofs.Marking.{no-start, start-there, start-marked}
+use Rattle.marks.proofs.Edges.{start-absent, start-present, stands-there}
+use Rattle.graph.proofs.Strings.{start-there}
 use borrow.Author.Needs.{needs}
 use Rattle.marks.proofs.mark_start.Statement.{statement}
 use Rattle.marks.proofs.mark_start.Tie as tie
 
 returns : tie.Need-returns
-returns c = search no-start
+returns c = search start-absent
 
-mark-requires : tie.Need-mark-requires
-mark-requires c κs = search start-there
+set-mark-requires : tie.Need-set-mark-requires
+set-mark-requires c κs = search stands-there
 
 same-length : tie.Need-same-length
 same-length c = search needs
 
 returns-2 : tie.Need-returns-2
-returns-2 c = search start-marked
+returns-2 c = search (start-present, start-there)
 
 pub mark-start-spec : {M : Type 1} → statement M
-mark-start-spec = tie.close (tie.spec returns mark-requires same-length returns-2)
+mark-start-spec = tie.close (tie.spec returns set-mark-requires same-length returns-2)

@@ -1,4 +1,4 @@
-use Rattle.marks.proofs.Marking.{previous-room, source-room, starts-marked}
+use Rattle.marks.proofs.Edges.{previous-stands, source-stands, stands-then, both-marked}
 use borrow.Author.Needs.{needs}
 use Rattle.marks.proofs.mark_starts.Statement.{statement}
 use Rattle.marks.proofs.mark_starts.Tie as tie
@@ -10,16 +10,16 @@ source-of-requires : tie.Need-source-of-requires
 source-of-requires c κs = search needs
 
 mark-start-requires : tie.Need-mark-start-requires
-mark-start-requires c κs = search previous-room
+mark-start-requires c κs = search previous-stands
 
 mark-start-requires-2 : tie.Need-mark-start-requires-2
-mark-start-requires-2 c κs = search source-room
+mark-start-requires-2 c κs = stands-then _ _ _ _ (c .before .before .before .mark-start .ensures) (search (previous-stands, source-stands))
 
 same-length : tie.Need-same-length
 same-length c = search needs
 
 returns : tie.Need-returns
-returns c = search starts-marked
+returns c = search both-marked
 
 pub mark-starts-spec : {M : Type 1} → statement M
 mark-starts-spec =

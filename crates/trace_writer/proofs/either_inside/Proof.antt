@@ -1,4 +1,5 @@
-use Rattle.trace_writer.proofs.Edges.{previous-stands, source-stands, previous-inside, source-inside}
+use Rattle.marks.proofs.Edges.{previous-stands, source-stands}
+use Rattle.trace_writer.proofs.Edges.{previous-inside, source-inside}
 use borrow.Author.Needs.{needs}
 use Rattle.trace_writer.proofs.either_inside.Statement.{statement}
 use Rattle.trace_writer.proofs.either_inside.Tie as tie

@@ -1,4 +1,5 @@
-use Rattle.trace_writer.proofs.Edges.{inside-absent, inside-present, stands-there}
+use Rattle.marks.proofs.Edges.{stands-there}
+use Rattle.trace_writer.proofs.Edges.{inside-absent, inside-present}
 use Rattle.graph.proofs.Strings.{start-there}
 use Rattle.trace_writer.proofs.inside.Statement.{statement}
 use Rattle.trace_writer.proofs.inside.Tie as tie

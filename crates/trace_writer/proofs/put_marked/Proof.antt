@@ -1,5 +1,5 @@
 use denote.Ref.{now}
-use Rattle.trace_writer.proofs.Edges.{previous-stands, source-stands}
+use Rattle.marks.proofs.Edges.{previous-stands, source-stands}
 use Rattle.trace_writer.proofs.Writing.{both-ask, both-done, temporal-ask, temporal-done, dependency-ask, dependency-done, entry-ask, entry-done}
 use borrow.Author.Needs.{needs}
 use Rattle.trace_writer.proofs.put_marked.Statement.{statement}

@@ -2,7 +2,6 @@ use Rattle.trace_writer.proofs.Writing.{slot-room, slot-put, slot-empty
 use borrow.Author.Needs.{needs}
 use Rattle.trace_writer.proofs.put_record.Statement.{statement}
 use Rattle.trace_writer.proofs.put_record.Tie as tie
-use Rattle.trace_writer.proofs.marked.Reads as marked-reads
 
 marked-requires : tie.Need-marked-requires
 marked-requires c κs = search needs

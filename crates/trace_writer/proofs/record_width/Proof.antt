@@ -1,4 +1,4 @@
-use Rattle.trace_writer.proofs.Edges.{previous-stands, source-stands}
+use Rattle.marks.proofs.Edges.{previous-stands, source-stands}
 use Rattle.trace_writer.proofs.Records.{width-marked, width-unmarked}
 use borrow.Author.Needs.{needs}
 use Rattle.trace_writer.proofs.record_width.Statement.{statement}

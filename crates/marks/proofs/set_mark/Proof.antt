@@ -1,7 +1,7 @@
-use Rattle.trace_writer.proofs.Marking.{mark-set, mark-cleared}
+use Rattle.marks.proofs.Marking.{mark-set, mark-cleared}
 use borrow.Author.Needs.{needs}
-use Rattle.trace_writer.proofs.set_mark.Statement.{statement}
-use Rattle.trace_writer.proofs.set_mark.Tie as tie
+use Rattle.marks.proofs.set_mark.Statement.{statement}
+use Rattle.marks.proofs.set_mark.Tie as tie
 
 mul-work : tie.Need-mul-work
 mul-work c = search needs
