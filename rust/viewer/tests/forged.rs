@@ -6,7 +6,7 @@ mod common;
 use common::*;
 use reference::edit::edit;
 use reference::forge::{e, fits, group, known, leaf, long_proof, node, proof, proof_of_found, proof_of_leaf, proof_of_trace};
-use reference::forge::{root, trace, trace_of, Fitting};
+use reference::forge::{root, s, trace, trace_of, Fitting};
 use reference::graph::{Dependency, Name, Version};
 use reference::random::{self, Random};
 use reference::sha256::sha256;
@@ -65,12 +65,14 @@ fn least_above_greatest() {
 #[test]
 fn long_walks() {
     const DEPTH: usize = 3_000;
-    let strings = long_proof(DEPTH, leaf(1, 6, &sha256(&[0x49, 0]), &[2; 32]));
+    let strings = long_proof(DEPTH, leaf(1, 6, &sha256(&[0x49, 0]), &sha256(&[0x4f, 0, 0, 0, 0])));
     assert_eq!(strings.len(), 2 * DEPTH + 3);
     let fitting = proof(&strings);
     assert_eq!(check_fitting(ask(0, 1, 7), &fitting, 0), found(6, 0));
-    let traced = [&fitting.answer[..], &trace(b'B', &[e(1, 6)])].concat();
-    assert_eq!(check(&ask(1, 1, 7), &fitting.commitment, &traced, 128), found(6, 1));
+    for (direction, trace) in [(1, trace(b'B', &[e(1, 6)])), (2, trace(b'F', &[s(1, 6)]))] {
+        let traced = [&fitting.answer[..], &trace].concat();
+        assert_eq!(check(&ask(direction, 1, 7), &fitting.commitment, &traced, 128), found(6, 1));
+    }
     for index in [1, 17, 32, 33, DEPTH, DEPTH + 1, DEPTH + 2, 2 * DEPTH, 2 * DEPTH + 2] {
         let start = strings[..index].concat().len();
         let mut bytes = fitting.answer.clone();
