@@ -1,6 +1,6 @@
 -- The check's verdict as plain numbers, and demand 3 of what they say. Assumes nothing.
-use mathlib.Core.Path.{_≡_, refl, sym, ap, ap₂, _∙_}
-use Prim.Native.Nat.{ℕ, _*_}
+use mathlib.Core.Path.{_≡_, refl, sym, ap, ap₂, _∙_, subst}
+use Prim.Native.Nat.{ℕ, _*_, _≤_}
 use native.Mathlib.Omega.{arith}
 use lib.Dec.{le→leb}
 use lib.ListN.{length}
@@ -9,6 +9,7 @@ use Rattle.model.specs.Numbers.{Bytes}
 use Rattle.model.specs.Result.{Result, ok, refuse, _>>=_}
 use Rattle.model.specs.Graph.{graph}
 use Rattle.model.specs.Question.{Verdict, count}
+use Rattle.model.specs.Answer.{log-answer}
 use Rattle.model.specs.CheckRows.{enough, Accepted, run}
 use Rattle.model.specs.Calls.{verdict-of, check-call}
 use Rattle.model.specs.Exact.{true-verdict}
@@ -23,7 +24,7 @@ use Rattle.checker.specs.Runs.{checkingOf, boundsOf}
 use Rattle.bozhtagul.specs.declared.Checked.{Checked}
 use Rattle.bozhtagul.specs.declared.Part.{Part}
 use Rattle.bozhtagul.specs.Results.{checked, bounds}
-use Rattle.bozhtagul.specs.Demand3.{Exact, Sound, Complete}
+use Rattle.bozhtagul.specs.Demand3.{Asked, Exact, Sound, Complete}
 
 -- ---- plain numbers
 
@@ -53,6 +54,16 @@ bounds-agree m b e = ap (λ (c : Bounds). record { start = c .start; length = c 
 
 -- ---- demand 3
 
+defined-accepted : (direction s t : ℕ) (commitment x work : Bytes) (a : Asked direction s t commitment) → x ≡ log-answer (a .records) (a .q)
+    → 128 * count (true-verdict (graph (a .records)) (a .q)) ≤ length work
+    → check-call direction s t commitment x work .result ≡ ok (true-verdict (graph (a .records)) (a .q))
+unfolding enough
+defined-accepted direction s t commitment x work a is room =
+    let v = true-verdict (graph (a .records)) (a .q) in
+    ap₂ (λ (c y : Bytes). check-call direction s t c y work .result) (a .of-log) is
+    ∙ check-complete (a .log) (a .records) (a .sound) direction s t (a .q) (a .known) work
+    ∙ bind-eq (enough (count v) (length work)) (λ _. ok v) tt (need-yes _ _ _ (le→leb (128 * count v) (length work) room))
+
 module _ (direction s t : ℕ) (commitment x work : Bytes) (r : Checked) (e : r ≡ checked (check-call direction s t commitment x work .result)) where
   returned-by : (m : Result Accepted) → run direction s t commitment x (length work) ≡ m → r ≡ checked (verdict-of m)
   unfolding check-call
@@ -78,11 +89,23 @@ module _ (direction s t : ℕ) (commitment x work : Bytes) (r : Checked) (e : r 
           absurd (let z : ⊥ = omega arith in z)
 
   pub complete-of : Complete direction s t commitment x work r
-  unfolding enough
-  complete-of a is room =
-      let v = true-verdict (graph (a .records)) (a .q) in
-      e
-      ∙ ap checked
-      (ap₂ (λ (c y : Bytes). check-call direction s t c y work .result) (a .of-log) is
-      ∙ check-complete (a .log) (a .records) (a .sound) direction s t (a .q) (a .known) work
-      ∙ bind-eq (enough (count v) (length work)) (λ _. ok v) tt (need-yes _ _ _ (le→leb (128 * count v) (length work) room)))
+  complete-of a is room = e ∙ ap checked (defined-accepted direction s t commitment x work a is room)
+
+accepts : Checking → Type 0
+accepts NoEntity = Unit {0}
+accepts NotYet = Unit {0}
+accepts (Found t n) = Unit {0}
+accepts (Refused n p) = ⊥
+
+verdict-accepts : (v : Verdict) → accepts (checkingOf (ok v))
+unfolding accepts checkingOf
+verdict-accepts Verdict.no-entity = tt
+verdict-accepts Verdict.not-yet = tt
+verdict-accepts (Verdict.found t n) = tt
+
+-- where the check refuses, the answer was not the defined one with enough work area, whatever the call returns
+module _ (direction s t : ℕ) (commitment x work : Bytes) (k : Checking) (e : k ≡ checkingOf (check-call direction s t commitment x work .result)) where
+  pub complete-unaccepted : (n p : ℕ) (r : Checked) → k ≡ Refused n p → Complete direction s t commitment x work r
+  unfolding accepts
+  complete-unaccepted n p r q a is room =
+      absurd (subst accepts (sym (ap checkingOf (defined-accepted direction s t commitment x work a is room)) ∙ sym e ∙ q) (verdict-accepts (true-verdict (graph (a .records)) (a .q))))

@@ -1,7 +1,7 @@
 -- Runs of the check: a proof's end, the trace behind it, and the calls. Assumes nothing.
 use mathlib.Core.Path.{_≡_, refl, sym, ap, ap₂, _∙_, subst}
 use mathlib.Core.List.{List, []}
-use Prim.Native.Nat.{ℕ, zero, suc, _+_, _-_, _≤_, _<_}
+use Prim.Native.Nat.{ℕ, _+_, _-_, _≤_, _<_}
 use native.Mathlib.Omega.{arith}
 use borrow.Author.Tests.{eq-eqb, ne-eqb}
 use lib.ListN.{length, take, drop, length-drop, replicate}
@@ -15,6 +15,7 @@ use Rattle.model.specs.Question.{at-or-before, backward, forward, Part, version
 use Rattle.model.specs.CheckRows.{leaf-in, CheckedProof, stopped, check-proof, read-trace, trace-rows, Accepted, end-here, with-trace, check-end, run-under, run}
 use Rattle.model.specs.Calls.{cleared, verdict-of, records-part, records-call}
 use Rattle.model.proofs.Outcomes.{bind-eq, bind-refused, ok-inj}
+use Rattle.model.proofs.Asking.{Known, known-by, unknown}
 use Rattle.model.proofs.TraceReading as reading
 use Rattle.log.specs.declared.TimeKey.{TimeKey}
 use Rattle.graph.specs.declared.Way.{Way}
@@ -217,28 +218,6 @@ module _ (answer : Bytes) (leaf at size direction : ℕ) (r : Run) (s t : ℕ) (
   found-fore h a b f = subst (λ (p : Part). RunIs answer (here p) r) (sym (part-2 s t q (asked 2 (omega arith)))) f
 
 -- ---- the whole run
-
--- a direction that row 11 lets pass asks a question
-record Known (direction s t : ℕ) : Type 0 where
-  q : Question
-  is : question direction s t ≡ ok q
-  relation-is : q .relation ≡ at-or-before
-  entity-is : q .entity ≡ s
-  time-is : q .time ≡ t
-
-known-by : (direction s t : ℕ) → direction ≤ 2 → Known direction s t
-unfolding question
-known-by zero s t h = record { q = _; is = refl; relation-is = refl; entity-is = refl; time-is = refl }
-known-by (suc zero) s t h = record { q = _; is = refl; relation-is = refl; entity-is = refl; time-is = refl }
-known-by (suc (suc zero)) s t h = record { q = _; is = refl; relation-is = refl; entity-is = refl; time-is = refl }
-known-by (suc (suc (suc d))) s t h = absurd (let z : ⊥ = omega arith in z)
-
-unknown : (direction s t : ℕ) → 2 < direction → question direction s t ≡ refuse 11 0
-unfolding question
-unknown zero s t h = absurd (let z : ⊥ = omega arith in z)
-unknown (suc zero) s t h = absurd (let z : ⊥ = omega arith in z)
-unknown (suc (suc zero)) s t h = absurd (let z : ⊥ = omega arith in z)
-unknown (suc (suc (suc d))) s t h = refl
 
 -- its proof, as it was read
 module _ (direction s t : ℕ) (few : direction ≤ 2) (commitment answer : Bytes) (p : Proof)

@@ -46,6 +46,7 @@ pub mod Widths
 pub mod HashedCount
 pub mod RecordsPart
 pub mod CallLaws
+pub mod Asking
 pub mod RowNumbers
 pub mod Decimal
 -- Log K

@@ -67,7 +67,7 @@ entity-in x (u ∷ vs) v m e = go (λ (q : v among vs). entity-in x vs v q e) (L
         (λ t. absurd (T-not (eqb x (u .leaf .entity)) t (subst (λ (k : ℕ). T (eqb x k)) (sym e ∙ ap (λ (z : VersionLeaf). z .leaf .entity) p) (eqb-refl x))))
     go rec (inr q) = by-test (eqb x (u .leaf .entity)) (λ (l : List VersionLeaf). v among l) (λ _. List·Memᴰ·tail (rec q)) (λ _. rec q)
 
-entity-up : (x : ℕ) (vs : List VersionLeaf) → Up time-key vs → Up time-key (of-entity x vs)
+pub entity-up : (x : ℕ) (vs : List VersionLeaf) → Up time-key vs → Up time-key (of-entity x vs)
 unfolding of-entity
 entity-up x [] u = Up.none
 entity-up x (v ∷ vs) u =

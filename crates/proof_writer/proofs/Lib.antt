@@ -1,0 +1,8 @@
+-- Laws that the proofs of the functions and other crates cite.
+pub mod Descents
+pub mod Seeking
+pub mod Laying
+pub mod Counting
+pub mod Planning
+pub mod Writing
+pub mod Outcome

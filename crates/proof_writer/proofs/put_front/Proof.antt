@@ -1,0 +1,43 @@
+use borrow.Author.Needs.{needs}
+use native.Mathlib.Omega.{arith}
+use denote.Ref.{now}
+use Rattle.proof_writer.proofs.Writing.{front-rows, front-is}
+use Rattle.proof_writer.proofs.put_front.Statement.{statement}
+use Rattle.proof_writer.proofs.put_front.Tie as tie
+
+put-path-requires : tie.Need-put-path-requires
+put-path-requires c κs =
+    let s = c .before .before .before in
+    front-rows (now (s .args .work)) (s .args .path) _ (s .pre .1) (s .pre .2)
+
+cast-put-root : tie.Need-cast-put-root
+cast-put-root c =
+    let F = c .before .before .before .before .before .before .before .pre .1 in
+    omega (arith, F .laid .few)
+
+cast-put-root-2 : tie.Need-cast-put-root-2
+cast-put-root-2 c =
+    let G = c .before .before .before .before .before .before .before .pre .0 .graphed in
+    omega (arith, G .number, G .digested .few)
+
+put-root-requires : tie.Need-put-root-requires
+put-root-requires c κs = search needs
+
+same-length : tie.Need-same-length
+same-length c = search needs
+
+returns : tie.Need-returns
+returns c =
+    let s = c .before .before .before .before .before .before .before .before .before .before in
+    λ ns G I. front-is (now (s .args .work)) _ ns _ _ (now (s .args .out)) _ _ _ I (c .before .before .before .before .before .before .put-path .ensures) (c .before .before .put-root .ensures) (s .pre .2)
+
+pub put-front-spec : {M : Type 1} → statement M
+put-front-spec =
+    tie.close
+    (tie.spec
+    put-path-requires
+    cast-put-root
+    cast-put-root-2
+    put-root-requires
+    same-length
+    returns)

@@ -1,0 +1,87 @@
+use borrow.Author.Needs.{needs}
+use denote.Ref.{now}
+use mathlib.Core.List.{[], _∷_}
+use Rattle.graph.specs.Table.{columns}
+use Rattle.graph.proofs.Slots.{kept-none}
+use Rattle.proof_writer.proofs.Writing.{no-entity-ready, not-yet-ready, found-ready, no-entity-done, not-yet-done, found-done}
+use Rattle.proof_writer.proofs.write.Statement.{statement}
+use Rattle.proof_writer.proofs.write.Tie as tie
+
+enum-known-plan : tie.Need-enum-known-plan
+enum-known-plan c = search needs
+
+put-front-requires : tie.Need-put-front-requires
+put-front-requires c κs =
+    let s = c .before .before .before .before .before .before .before in
+    no-entity-ready (now (s .args .work)) _ _ _ _ (c .before .before .before .plan .given .1) (s .pre .0) _ (s .pre .1)
+
+enum-known-plan-2 : tie.Need-enum-known-plan-2
+enum-known-plan-2 c = search needs
+
+put-walk-requires : tie.Need-put-walk-requires
+put-walk-requires c κs =
+    let s = c .before .before .before .before .before .before .before in
+    not-yet-ready (now (s .args .work)) _ _ _ _ _ (c .before .before .before .plan2 .given .1) (s .pre .0) _ (s .pre .1)
+
+enum-known-plan-3 : tie.Need-enum-known-plan-3
+enum-known-plan-3 c = search needs
+
+put-found-requires : tie.Need-put-found-requires
+put-found-requires c κs =
+    let s = c .before .before .before .before .before .before .before in
+    found-ready (now (s .args .work)) _ _ _ _ _ _ _ _ (c .before .before .before .plan3 .given .1) (s .pre .0) _ (s .pre .1)
+
+same-length : tie.Need-same-length
+same-length c = search needs
+
+same-length-2 : tie.Need-same-length-2
+same-length-2 c = search needs
+
+returns : tie.Need-returns
+returns c =
+    let s = c .before .before .before .before .before .before .before .before .before .before in
+    (no-entity-done (now (s .args .work)) _ _ _ _ (c .before .before .before .before .before .before .plan .given .1) _ (now (s .args .out)) _ (c .before .before .put-front .ensures), kept-none (columns 84 124 ∷ []) (now (s .args .work)))
+
+same-length-3 : tie.Need-same-length-3
+same-length-3 c = search needs
+
+same-length-4 : tie.Need-same-length-4
+same-length-4 c = search needs
+
+returns-2 : tie.Need-returns-2
+returns-2 c =
+    let s = c .before .before .before .before .before .before .before .before .before .before .before .before in
+    let r = c .before .before .before .before .put-walk .ensures in
+    (not-yet-done (now (s .args .work)) _ _ _ _ _ (c .before .before .before .before .before .before .before .before .plan2 .given .1) _ (now (s .args .out)) _ (r .0), r .1)
+
+same-length-5 : tie.Need-same-length-5
+same-length-5 c = search needs
+
+same-length-6 : tie.Need-same-length-6
+same-length-6 c = search needs
+
+returns-3 : tie.Need-returns-3
+returns-3 c =
+    let s = c .before .before .before .before .before .before .before .before .before .before .before .before in
+    let r = c .before .before .before .before .put-found .ensures in
+    (found-done (now (s .args .work)) _ _ _ _ _ _ _ _ (c .before .before .before .before .before .before .before .before .plan3 .given .1) _ (now (s .args .out)) _ (r .0), r .1)
+
+pub write-spec : {M : Type 1} → statement M
+write-spec =
+    tie.close
+    (tie.spec
+    enum-known-plan
+    put-front-requires
+    enum-known-plan-2
+    put-walk-requires
+    enum-known-plan-3
+    put-found-requires
+    same-length
+    same-length-2
+    returns
+    same-length-3
+    same-length-4
+    returns-2
+    same-length-5
+    same-length-6
+    returns-3)

@@ -1,0 +1,463 @@
+// The host's writing of an answer's proof: the strings that the walk through the two trees opens, over a node table.
+use accumulator::EntityTree;
+use accumulator::Subtree;
+use accumulator::VersionTree;
+use log::EntityKey;
+use log::TimeKey;
+ghost use mathlib.Core.Path.{_≡_};
+ghost use mathlib.Core.Bool.{_||_};
+ghost use mathlib.Core.List.{List, [], _∷_, _++_};
+ghost use Prim.Native.Nat.{ℕ, _+_, _-_, _*_, _≤_, _<_};
+ghost use lib.Dec.{T, ltb, leb};
+ghost use lib.ListN.{length};
+ghost use Rattle.fields.specs.Fields.{field, written};
+ghost use Rattle.model.specs.Numbers.{joined};
+ghost use Rattle.model.specs.Graph.{VersionNode, node-at};
+ghost use Rattle.model.specs.Accumulator.{largest-power-below, is-entry, Group, entities-layout, leaf-string, root};
+ghost use Rattle.model.specs.Question.{Question};
+ghost use Rattle.model.specs.Answer.{proof};
+ghost use Rattle.graph.specs.Table.{node-in, columns, Kept};
+ghost use Rattle.accumulator.specs.Trees.{headerOf};
+ghost use Rattle.proof_writer.specs.Rows.{Graphed, HasGraph, key-in, RowPut, RowsOf, Laid, EntityRows, VersionRows, version-at};
+ghost use Rattle.proof_writer.specs.Walks.{Among, half-of, EntitySought, DepthIs, latest-of, VersionsOf, HasVersion, FirstVersion};
+ghost use Rattle.proof_writer.specs.Plans.{entity-path, front-bytes, FoundIs, length-of, PathFits, PathIs, Asks, PlanIs, Plan, HasEntity, Reaches, HasPlan, EntityFits, EntityPut};
+
+// ---- rows of leaves
+
+// A leaf's key and digest to row i.
+fn put_row(work: &mut [u8], i: usize, k: Subtree)
+    requires { ⌜ 128 * i + 128 ≤ length (now work) ⌝ }
+    ensures { λ _. ⌜ RowPut (now (work .entry)) (now (work .exit)) i (k .least) (k .digest) ⌝ }
+{
+    let digest = k.digest;
+    fields::put_u64(work, 128 * i + 84, k.least);
+    fields::copy(work, 128 * i + 92, &digest, 0, 32);
+}
+
+// The leaves of the tree of entities, and how many there are.
+fn put_entity_leaves(work: &mut [u8], n: usize) -> usize
+    requires { ⌜ HasGraph (now work) n ⌝ }
+    ensures { λ r. ⌜ ((ns : List VersionNode) → Graphed (now (work .entry)) n ns → EntityRows (now (work .entry)) (now (work .exit)) ns r) ⌝ }
+{
+    let mut e: usize = 0;
+    let mut i = trees::next_entry(work, 0, n);
+    while i < n {
+        let leaf = trees::entity_leaf(work, i, n);
+        put_row(work, e, leaf.0);
+        e += 1;
+        i = trees::next_entry(work, i + 1, n);
+    }
+    e
+}
+
+// The leaves of an entity's tree, from the version that enters it on, and how many there are.
+fn put_version_leaves(work: &mut [u8], entry: usize, n: usize) -> usize
+    requires { ⌜ HasGraph (now work) n × (entry < n) × T (is-entry (node-in (now work) entry)) ⌝ }
+    ensures { λ r. ⌜ ((ns : List VersionNode) → Graphed (now (work .entry)) n ns → VersionRows (now (work .entry)) (now (work .exit)) ns (node-at ns entry .entity) r) ⌝ }
+{
+    let mut count: usize = 0;
+    let mut i = entry;
+    while i < 65535 {
+        let leaf = trees::leaf_of(work, i);
+        put_row(work, count, leaf.0);
+        count += 1;
+        i = graph::get_next(work, i) as usize;
+    }
+    count
+}
+
+fn key_at(work: &[u8], i: usize) -> EntityKey
+    requires { ⌜ 128 * i + 128 ≤ length (now work) ⌝ }
+    ensures { λ r. ⌜ r .0 ≡ key-in (now (work .entry)) i ⌝ }
+{
+    EntityKey(fields::get_u64(work, 128 * i + 84))
+}
+
+// ---- halves
+
+// The leaves of a subtree: n of them, the first at place `from`.
+struct Span {
+    from: usize,
+    n: usize,
+}
+
+// Whether an entity lies outside the keys of a subtree.
+fn outside(work: &[u8], span: Span, entity: EntityKey, count: usize) -> bool
+    requires { ⌜ Laid (now work) count × Among count span ⌝ }
+    ensures { λ r. ⌜ r ≡ (ltb (entity .0) (key-in (now (work .entry)) (span .from)) || ltb (key-in (now (work .entry)) (span .from + (span .n - 1))) (entity .0)) ⌝ }
+{
+    if entity.below(key_at(work, span.from)) {
+        return true;
+    }
+    key_at(work, span.from + (span.n - 1)).below(entity)
+}
+
+// The half in which an entity is sought: the left one if the entity is at most its greatest key.
+fn entity_half(work: &[u8], span: Span, entity: EntityKey, count: usize) -> Span
+    requires { ⌜ Laid (now work) count × Among count span × (1 < span .n) ⌝ }
+    ensures { λ r. ⌜ r ≡ half-of span (leb (entity .0) (key-in (now (work .entry)) (span .from + (largest-power-below (span .n) - 1)))) ⌝ }
+{
+    let k = accumulator::split(span.n);
+    let middle = span.from + k;
+    let rest = span.n - k;
+    let greatest = key_at(work, middle - 1);
+    if greatest.below(entity) {
+        return Span {
+            from: middle,
+            n: rest,
+        };
+    }
+    Span {
+        from: span.from,
+        n: k,
+    }
+}
+
+// The half that has a leaf.
+fn leaf_half(span: Span, target: usize, count: usize) -> Span
+    requires { ⌜ Among count span × (1 < span .n) ⌝ }
+    ensures { λ r. ⌜ r ≡ half-of span (ltb target (span .from + largest-power-below (span .n))) ⌝ }
+{
+    let k = accumulator::split(span.n);
+    if target < span.from + k {
+        return Span {
+            from: span.from,
+            n: k,
+        };
+    }
+    Span {
+        from: span.from + k,
+        n: span.n - k,
+    }
+}
+
+// ---- the walks
+
+// The walk to an entity goes toward leaf `target` and opens `depth` strings P; it stops between keys, or at that leaf.
+enum Sought {
+    Absent { target: usize, depth: usize },
+    Present { target: usize, depth: usize },
+}
+
+fn seek_entity(work: &[u8], count: usize, entity: EntityKey) -> Sought
+    requires { ⌜ Laid (now work) count ⌝ }
+    ensures { λ r. ⌜ ((gs : List Group) → RowsOf entities-layout (now (work .entry)) gs count → EntitySought (entity .0) gs r) ⌝ }
+{
+    let mut span = Span { from: 0, n: count };
+    let mut depth: usize = 0;
+    loop {
+        if outside(work, span, entity, count) {
+            return Sought::Absent {
+                target: span.from,
+                depth: depth,
+            };
+        }
+        if span.n <= 1 {
+            return Sought::Present {
+                target: span.from,
+                depth: depth,
+            };
+        }
+        span = entity_half(work, span, entity, count);
+        depth += 1;
+    }
+}
+
+// How many strings N lead to a leaf.
+fn leaf_depth(count: usize, target: usize) -> usize
+    requires { ⌜ (target < count) × (count ≤ 65535) ⌝ }
+    ensures { λ r. ⌜ DepthIs count target r ⌝ }
+{
+    let mut span = Span { from: 0, n: count };
+    let mut depth: usize = 0;
+    while span.n > 1 {
+        span = leaf_half(span, target, count);
+        depth += 1;
+    }
+    depth
+}
+
+// ---- the versions of an entity
+
+// The first version of an entity that has one.
+fn first_version(work: &[u8], n: usize, entity: EntityKey) -> usize
+    requires { ⌜ HasVersion (now work) n (entity .0) ⌝ }
+    ensures { λ r. ⌜ FirstVersion (now (work .entry)) n (entity .0) r ⌝ }
+{
+    let mut i: usize = 0;
+    while i < n {
+        if graph::entity_of(work, i).same(entity) {
+            return i;
+        }
+        i += 1;
+    }
+    i
+}
+
+// How many versions are at or before a time, and the slot of the last of them.
+struct Latest {
+    before: usize,
+    slot: usize,
+}
+
+// One version more.
+fn with_version(work: &[u8], i: usize, time: TimeKey, l: Latest) -> Latest
+    requires { ⌜ (128 * i + 128 ≤ length (now work)) × (l .before < 65535) ⌝ }
+    ensures { λ r. ⌜ r ≡ latest-of (time .0) (field 8 (now (work .entry)) (128 * i + 64)) i l ⌝ }
+{
+    if time.below(graph::time_of(work, i)) {
+        return l;
+    }
+    Latest {
+        before: l.before + 1,
+        slot: i,
+    }
+}
+
+// The versions of an entity: all of them, and those at or before a time.
+struct Versions {
+    count: usize,
+    before: usize,
+    slot: usize,
+}
+
+fn count_versions(work: &[u8], entry: usize, n: usize, time: TimeKey) -> Versions
+    requires { ⌜ HasGraph (now work) n × (entry < n) × T (is-entry (node-in (now work) entry)) ⌝ }
+    ensures { λ r. ⌜ ((ns : List VersionNode) → Graphed (now (work .entry)) n ns → VersionsOf ns (node-at ns entry .entity) (time .0) r) ⌝ }
+{
+    let mut l = Latest { before: 0, slot: 0 };
+    let mut count: usize = 0;
+    let mut i = entry;
+    while i < 65535 {
+        l = with_version(work, i, time, l);
+        count += 1;
+        i = graph::get_next(work, i) as usize;
+    }
+    Versions {
+        count: count,
+        before: l.before,
+        slot: l.slot,
+    }
+}
+
+// ---- the plan
+
+// The walk in the tree of entities: their number, and how many strings P it opens on the way to a leaf.
+pub struct EntityPath {
+    count: usize,
+    target: usize,
+    depth: usize,
+}
+
+// How a proof ends, its length, and what writing it needs: the slot of the entity's first version, the slot of the version found, its
+// place among the entity's versions and how many strings N lead to it.
+pub enum Planned {
+    NoEntity {
+        length: usize,
+        path: EntityPath,
+    },
+    NotYet {
+        length: usize,
+        path: EntityPath,
+        entry: usize,
+    },
+    Found {
+        length: usize,
+        path: EntityPath,
+        entry: usize,
+        slot: usize,
+        index: usize,
+        depth: usize,
+    },
+}
+
+// The plan from the entity's leaf on.
+fn plan_entity(work: &[u8], n: usize, path: EntityPath, entity: EntityKey, time: TimeKey) -> Planned
+    requires { ⌜ HasEntity (now work) n (entity .0) × (path .depth ≤ 65535) ⌝ }
+    ensures { λ r. ⌜ ((ns : List VersionNode) → Graphed (now (work .entry)) n ns → Reaches (now (work .entry)) ns (entity .0) path → PlanIs (now (work .entry)) ns (entity .0) (time .0) r) ⌝ }
+{
+    let entry = first_version(work, n, entity);
+    let v = count_versions(work, entry, n, time);
+    let length = 122 + 97 * path.depth;
+    if v.before == 0 {
+        return Planned::NotYet {
+            length: length,
+            path: path,
+            entry: entry,
+        };
+    }
+    let index = v.before - 1;
+    let depth = leaf_depth(v.count, index);
+    Planned::Found {
+        length: length + (97 * depth + 77),
+        path: path,
+        entry: entry,
+        slot: v.slot,
+        index: index,
+        depth: depth,
+    }
+}
+
+// Lays the leaves of the entities in rows and plans the proof.
+pub fn plan(work: &mut [u8], n: usize, entity: EntityKey, time: TimeKey) -> Planned
+    requires { ⌜ HasGraph (now work) n ⌝ }
+    ensures plan { λ r. ⌜ Plan (now (work .exit)) n (entity .0) (time .0) r ⌝ }
+    ensures kept { λ _. ⌜ Kept (columns 84 124 ∷ []) (now (work .entry)) (now (work .exit)) ⌝ }
+{
+    let count = put_entity_leaves(work, n);
+    match seek_entity(work, count, entity) {
+        Sought::Absent { target, depth } => Planned::NoEntity {
+            length: 65 + 97 * depth,
+            path: EntityPath {
+                count: count,
+                target: target,
+                depth: depth,
+            },
+        },
+        Sought::Present { target, depth } => {
+            let path = EntityPath {
+                count: count,
+                target: target,
+                depth: depth,
+            };
+            plan_entity(work, n, path, entity, time)
+        }
+    }
+}
+
+pub fn proof_length(plan: Planned) -> usize
+    ensures { λ r. ⌜ r ≡ length-of plan ⌝ }
+{
+    match plan {
+        Planned::NoEntity { length, path } => length,
+        Planned::NotYet {
+            length,
+            path,
+            entry,
+        } => length,
+        Planned::Found {
+            length,
+            path,
+            entry,
+            slot,
+            index,
+            depth,
+        } => length,
+    }
+}
+
+// ---- writing
+
+// R and the strings P.
+fn put_front(work: &[u8], n: usize, last: TimeKey, path: EntityPath, out: &mut [u8])
+    requires { ⌜ HasGraph (now work) n × PathFits (now work) path × (65 + 97 * path .depth ≤ length (now out)) ⌝ }
+    ensures { λ _. ⌜ ((ns : List VersionNode) → Graphed (now (work .entry)) n ns → PathIs (now (work .entry)) ns path → now (out .exit) ≡ written (now (out .entry)) 0 (joined (root (headerOf n last) ns ∷ entity-path ns path))) ⌝ }
+{
+    let count = path.count;
+    let tree = accumulator::put_path(
+        0x50,
+        work,
+        84,
+        128,
+        0,
+        count,
+        path.target,
+        path.depth,
+        out,
+        65,
+    );
+    accumulator::put_root(out, 0, count as u32, n as u32, last, EntityTree(tree));
+}
+
+// G of the entity that a version enters, and the strings N on the way to a leaf of its tree. Lays the leaves of its versions in rows.
+fn put_entity(
+    work: &mut [u8],
+    n: usize,
+    entry: usize,
+    index: usize,
+    depth: usize,
+    out: &mut [u8],
+    at: usize,
+)
+    requires { ⌜ EntityFits (now work) n entry index depth (length (now out)) at ⌝ }
+    ensures strings { λ _. ⌜ ((ns : List VersionNode) → Graphed (now (work .entry)) n ns → EntityPut ns (node-at ns entry .entity) index depth (now (out .entry)) (now (out .exit)) at) ⌝ }
+    ensures kept { λ _. ⌜ Kept (columns 84 124 ∷ []) (now (work .entry)) (now (work .exit)) ⌝ }
+{
+    let count = put_version_leaves(work, entry, n);
+    let tree = accumulator::put_path(0x4e, work, 84, 128, 0, count, index, depth, out, at + 57);
+    let entity = graph::entity_of(work, entry);
+    accumulator::put_group(out, at, entity, VersionTree(tree));
+}
+
+// L of the version in a slot.
+fn put_version(work: &[u8], n: usize, slot: usize, out: &mut [u8], at: usize)
+    requires { ⌜ HasGraph (now work) n × (slot < n) × (at + 77 ≤ length (now out)) ⌝ }
+    ensures { λ _. ⌜ ((ns : List VersionNode) → Graphed (now (work .entry)) n ns → now (out .exit) ≡ written (now (out .entry)) at (leaf-string (version-at ns slot .leaf))) ⌝ }
+{
+    let entity = graph::entity_of(work, slot);
+    let time = graph::time_of(work, slot);
+    accumulator::put_leaf(out, at, entity, time, work, 128 * slot, 128 * slot + 32);
+}
+
+// R, the strings P, G and the strings N.
+fn put_walk(
+    work: &mut [u8],
+    n: usize,
+    last: TimeKey,
+    path: EntityPath,
+    entry: usize,
+    index: usize,
+    depth: usize,
+    out: &mut [u8],
+)
+    requires { ⌜ PathFits (now work) path × EntityFits (now work) n entry index depth (length (now out)) (65 + 97 * path .depth) ⌝ }
+    ensures strings { λ _. ⌜ ((ns : List VersionNode) → Graphed (now (work .entry)) n ns → PathIs (now (work .entry)) ns path → now (out .exit) ≡ written (now (out .entry)) 0 (front-bytes (headerOf n last) ns path entry index depth)) ⌝ }
+    ensures kept { λ _. ⌜ Kept (columns 84 124 ∷ []) (now (work .entry)) (now (work .exit)) ⌝ }
+{
+    put_front(work, n, last, path, out);
+    put_entity(work, n, entry, index, depth, out, 65 + 97 * path.depth);
+}
+
+// The same, and L.
+fn put_found(
+    work: &mut [u8],
+    n: usize,
+    last: TimeKey,
+    path: EntityPath,
+    entry: usize,
+    slot: usize,
+    index: usize,
+    depth: usize,
+    out: &mut [u8],
+)
+    requires { ⌜ PathFits (now work) path × EntityFits (now work) n entry index depth (length (now out)) (65 + 97 * path .depth) × (slot < n) × (199 + 97 * path .depth + 97 * depth ≤ length (now out)) ⌝ }
+    ensures strings { λ _. ⌜ ((ns : List VersionNode) → Graphed (now (work .entry)) n ns → PathIs (now (work .entry)) ns path → FoundIs ns (node-at ns entry .entity) entry slot index depth → now (out .exit) ≡ written (now (out .entry)) 0 (front-bytes (headerOf n last) ns path entry index depth ++ leaf-string (version-at ns slot .leaf))) ⌝ }
+    ensures kept { λ _. ⌜ Kept (columns 84 124 ∷ []) (now (work .entry)) (now (work .exit)) ⌝ }
+{
+    put_walk(work, n, last, path, entry, index, depth, out);
+    put_version(work, n, slot, out, 122 + 97 * path.depth + 97 * depth);
+}
+
+// Writes the proof that was planned. Behind it, the rows hold other leaves.
+pub fn write(plan: Planned, work: &mut [u8], n: usize, last: TimeKey, out: &mut [u8])
+    requires { ⌜ HasPlan (now work) n plan × (length-of plan ≤ length (now out)) ⌝ }
+    ensures proof { λ _. ⌜ ((x t : ℕ) → Plan (now (work .entry)) n x t plan → (ns : List VersionNode) → Graphed (now (work .entry)) n ns → (q : Question) → Asks q x t → now (out .exit) ≡ written (now (out .entry)) 0 (joined (proof (headerOf n last) ns q .opened))) ⌝ }
+    ensures kept { λ _. ⌜ Kept (columns 84 124 ∷ []) (now (work .entry)) (now (work .exit)) ⌝ }
+{
+    match plan {
+        Planned::NoEntity { length, path } => put_front(work, n, last, path, out),
+        Planned::NotYet {
+            length,
+            path,
+            entry,
+        } => put_walk(work, n, last, path, entry, 0, 0, out),
+        Planned::Found {
+            length,
+            path,
+            entry,
+            slot,
+            index,
+            depth,
+        } => put_found(work, n, last, path, entry, slot, index, depth, out),
+    }
+}
