@@ -3,4 +3,5 @@ mod Hashed
 mod LogRead
 mod ListingText
 mod Committed
+mod GivenAnswer
 mod CheckedAnswer

@@ -1,5 +1,6 @@
 // The public calls as the outside sees them: plain numbers and byte slices.
 use checker::Checking;
+use host::Answering;
 use host::Committing;
 use listing::Listed;
 use log::EntityKey;
@@ -9,7 +10,7 @@ use sha256::Hashing;
 ghost use mathlib.Core.Path.{_≡_};
 ghost use lib.ListN.{length};
 ghost use Rattle.model.specs.CheckRows.{run};
-ghost use Rattle.model.specs.Calls.{hash-call, log-call, listing-call, commitment-call, check-call, records-call};
+ghost use Rattle.model.specs.Calls.{hash-call, log-call, listing-call, commitment-call, answer-call, check-call, records-call};
 ghost use Rattle.bozhtagul.specs.Results.{outcome, written, checked, bounds};
 ghost use Rattle.bozhtagul.specs.Demand3.{Sound, Complete};
 
@@ -121,6 +122,27 @@ pub extern "C" fn bozhtagul_commitment(log: &[u8], work: &mut [u8], out: &mut [u
     match host::commitment(log, work, out) {
         Committing::Written => row(0, 0),
         Committing::Refused { number, position } => row(number, position as u64),
+    }
+}
+
+// Writes the answer to a question to the front of `out`. The work area takes 128 bytes a record and is zero afterwards.
+#[no_mangle]
+pub extern "C" fn bozhtagul_answer(
+    direction: u8,
+    entity: u32,
+    time: u64,
+    log: &[u8],
+    work: &mut [u8],
+    out: &mut [u8],
+) -> Written
+    ensures result { λ r. ⌜ r ≡ written (answer-call direction entity time (now (log .entry)) (now (out .entry)) (now (work .entry)) .result) ⌝ }
+    ensures output { λ _. ⌜ now (out .exit) ≡ answer-call direction entity time (now (log .entry)) (now (out .entry)) (now (work .entry)) .output ⌝ }
+    ensures cleared { λ _. ⌜ now (work .exit) ≡ answer-call direction entity time (now (log .entry)) (now (out .entry)) (now (work .entry)) .work ⌝ }
+{
+    let s = EntityKey(entity as u64);
+    match host::answer(direction, s, TimeKey(time), log, work, out) {
+        Answering::Written { length } => row_or_length(0, 0, length as u64),
+        Answering::Refused { number, position } => row_or_length(number, position as u64, 0),
     }
 }
 
