@@ -67,6 +67,17 @@ mod exported {
             work: *mut u8,
             work_len: usize,
         ) -> Part;
+        pub fn bozhtagul_answer(
+            direction: u8,
+            entity: u32,
+            time: u64,
+            log: *const u8,
+            log_len: usize,
+            work: *mut u8,
+            work_len: usize,
+            out: *mut u8,
+            out_len: usize,
+        ) -> Written;
     }
 }
 
@@ -149,6 +160,24 @@ pub fn listing(input: &[u8], out: &mut [u8]) -> Result<u64, Refusal> {
 pub fn commitment(log: &[u8], work: &mut [u8], out: &mut [u8]) -> Result<(), Refusal> {
     accepted(unsafe {
         exported::bozhtagul_commitment(
+            log.as_ptr(),
+            log.len(),
+            work.as_mut_ptr(),
+            work.len(),
+            out.as_mut_ptr(),
+            out.len(),
+        )
+    })
+}
+
+/// Writes the answer to a question about a log to the first bytes of `out`, and gives its length; else the row of 1 to 13 that the call
+/// meets, and `out` stays as it was. The work area is as for `commitment`. An answer has at most 3,211 bytes and 22 a record.
+pub fn answer(question: &Question, log: &[u8], work: &mut [u8], out: &mut [u8]) -> Result<u64, Refusal> {
+    counted(unsafe {
+        exported::bozhtagul_answer(
+            question.direction.number(),
+            question.entity,
+            question.time,
             log.as_ptr(),
             log.len(),
             work.as_mut_ptr(),

@@ -1,5 +1,6 @@
-//! One call, to be run under an instruction counter; prints how many blocks of SHA-256 it compresses.
-//! Arguments: `hash BYTES`, or `log SHAPE RECORDS`, or `commitment SHAPE RECORDS`, or `check DIRECTION SHAPE RECORDS`.
+//! One call, to be run under an instruction counter; prints how many blocks of SHA-256 it compresses (for an answer: how many the log's
+//! commitment takes, which is the least).
+//! Arguments: `hash BYTES`, or `log` or `commitment` and `SHAPE RECORDS`, or `check` or `answer` and `DIRECTION SHAPE RECORDS`.
 
 use bench::shapes::{self, Asked};
 
@@ -14,7 +15,8 @@ fn main() {
         }
         ["commitment", shape, records] => commitment(shape, number(records)),
         ["check", direction, shape, records] => check(direction, shape, number(records)),
-        _ => panic!("count hash BYTES | log SHAPE RECORDS | commitment SHAPE RECORDS | check DIRECTION SHAPE RECORDS"),
+        ["answer", direction, shape, records] => answer(direction, shape, number(records)),
+        _ => panic!("count hash BYTES | log|commitment SHAPE RECORDS | check|answer DIRECTION SHAPE RECORDS"),
     };
     println!("{blocks}");
 }
@@ -39,4 +41,12 @@ fn check(direction: &str, shape: &str, records: usize) -> usize {
     let mut work = viewer::work_area(records);
     viewer::check(&bench::typed(&question), &commitment, &answer, &mut work).expect("the defined answer");
     shapes::check_blocks(&answer)
+}
+
+fn answer(direction: &str, shape: &str, records: usize) -> usize {
+    let log = shapes::log(shape, records);
+    let Asked { question, mut answer, .. } = Asked::new(&log, direction);
+    let mut work = viewer::work_area(records);
+    viewer::answer(&bench::typed(&question), &log, &mut work, &mut answer).expect("enough memory");
+    shapes::commitment_blocks(&log)
 }
