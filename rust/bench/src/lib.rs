@@ -4,6 +4,11 @@ pub mod openssl;
 pub mod plain;
 pub mod shapes;
 
+/// A question as the proved library's calls take it.
+pub fn typed(question: &reference::Question) -> viewer::Question {
+    viewer::Question { direction: viewer::Direction::Raw(question.direction), entity: question.entity, time: question.time }
+}
+
 #[repr(C)]
 struct Timespec {
     seconds: i64,

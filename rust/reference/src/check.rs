@@ -242,7 +242,7 @@ fn record_width(direction: u8, own: usize, letter: u8) -> Option<usize> {
 }
 
 /// The version and the edges that a record shows.
-fn decode_record(bytes: &[u8]) -> Version {
+pub(crate) fn decode_record(bytes: &[u8]) -> Version {
     let name = Name { entity: u32_at(bytes, 1), time: u64_at(bytes, 5) };
     let position = |at| u32_at(bytes, at) as usize;
     let (temporal, dependency) = match bytes[0] {

@@ -10,12 +10,15 @@
 #![forbid(unsafe_code)]
 
 pub mod check;
+pub mod edit;
 pub mod fields;
+pub mod forge;
 pub mod graph;
 pub mod host;
 pub mod listing;
 pub mod log;
 pub mod random;
+pub mod sample;
 pub mod sha256;
 pub mod tree;
 pub mod vectors;

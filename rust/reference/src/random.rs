@@ -1,6 +1,7 @@
 //! Deterministic inputs for tests: sound logs, logs with one fault, questions,
 //! damaged answers, and forged commitments with answers that fit them.
 
+use crate::forge::{fits, found_place, records_of, trace_letter, trace_with_count};
 use crate::graph::{incoming_digests, outgoing_digests, Dependency, Name, Version};
 use crate::log::{write, Record, MOST_RECORDS};
 use crate::sha256::{sha256, Digest};
@@ -370,7 +371,7 @@ fn forged_group(random: &mut Random, question: &Question) -> Opening {
 fn forged_leaf(random: &mut Random, question: &Question) -> Opening {
     let direction = question.direction;
     let versions = forged_versions(random, direction);
-    let found = if direction == BACKWARD { versions.len() - 1 } else { 0 };
+    let found = found_place(direction, &versions);
     let mut name = versions[found].name;
     let (mut incoming, mut outgoing) = (random.digest(), random.digest());
     if fits(&versions) && !random.once_in(16) {
@@ -384,14 +385,6 @@ fn forged_leaf(random: &mut Random, question: &Question) -> Opening {
     let trace = if direction == 0 { Vec::new() } else { forged_trace(random, direction, &versions) };
     let key = forged_keys(random, question.time).0;
     Opening { known: Subtree::leaf(key, &string), string, below: Vec::new(), trace }
-}
-
-/// All positions are below the record's own.
-fn fits(versions: &[Version]) -> bool {
-    versions.iter().enumerate().all(|(own, version)| {
-        version.temporal.is_none_or(|start| start < own)
-            && version.dependency.is_none_or(|edge| edge.source < own)
-    })
 }
 
 /// Versions with arbitrary edges, mostly from earlier ones and by rising time.
@@ -430,29 +423,12 @@ fn forged_position(random: &mut Random, own: usize) -> usize {
 }
 
 fn forged_trace(random: &mut Random, direction: u8, versions: &[Version]) -> Vec<u8> {
-    let mut trace = vec![if direction == BACKWARD { b'B' } else { b'F' }];
     let count = match random.below(40) {
         0 => 0,
         1 => 65_536 + random.below(3) as u32,
         _ => versions.len() as u32,
     };
-    trace.extend_from_slice(&count.to_be_bytes());
-    for version in versions {
-        trace.push(match (version.temporal, version.dependency) {
-            (None, None) if direction == BACKWARD => b'E',
-            (None, None) => b'S',
-            (Some(_), None) => b'T',
-            (None, Some(_)) => b'D',
-            (Some(_), Some(_)) => b'V',
-        });
-        trace.extend_from_slice(&version.name.entity.to_be_bytes());
-        trace.extend_from_slice(&version.name.time.to_be_bytes());
-        trace.extend(version.dependency.map(|edge| edge.kind));
-        for position in version.temporal.into_iter().chain(version.dependency.map(|edge| edge.source)) {
-            trace.extend_from_slice(&(position as u32).to_be_bytes());
-        }
-    }
-    trace
+    trace_with_count(trace_letter(direction), count, &records_of(direction, versions))
 }
 
 /// Writes the strings that the walk opens, and the trace.

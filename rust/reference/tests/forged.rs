@@ -4,40 +4,16 @@
 mod common;
 
 use common::*;
+use reference::forge::{group, known, leaf, long_proof, node, proof, record, root, trace, Fitting};
 use reference::random::{damaged_answer, forged, Random};
 use reference::sha256::sha256;
-
-fn known(least: u64, greatest: u64, string: &[u8]) -> Vec<u8> {
-    [&least.to_be_bytes()[..], &greatest.to_be_bytes(), &sha256(string)].concat()
-}
-
-fn node(letter: u8, left: &[u8], right: &[u8]) -> Vec<u8> {
-    [&[letter], left, right].concat()
-}
-
-fn root(tree: &[u8]) -> Vec<u8> {
-    [&b"R"[..], &[9; 16], tree].concat()
-}
-
-fn group(tree: &[u8]) -> Vec<u8> {
-    [&b"G"[..], &[7; 8], tree].concat()
-}
-
-fn leaf(entity: u32, time: u64, incoming: &[u8], outgoing: &[u8]) -> Vec<u8> {
-    [&b"L"[..], &entity.to_be_bytes(), &time.to_be_bytes(), incoming, outgoing].concat()
-}
-
-/// The proof strings as an answer with its commitment.
-fn proof(strings: &[Vec<u8>]) -> (Vec<u8>, Vec<u8>) {
-    (sha256(&strings[0]).to_vec(), strings.concat())
-}
 
 #[test]
 fn own_keys_are_not_compared() {
     // G's entity is 7 in every byte, L's name is 5 at 500; neither is what is asked.
     let l = leaf(5, 500, &[1; 32], &[2; 32]);
     let g = group(&known(3, 3, &l));
-    let (commitment, bytes) = proof(&[root(&known(1, 1, &g)), g, l]);
+    let Fitting { commitment, answer: bytes } = proof(&[root(&known(1, 1, &g)), g, l]);
     assert_eq!(check(ask(0, 1, 4), &commitment, &bytes), accepted(3, 500, 0));
     assert_eq!(check(ask(0, 1, 2), &commitment, &bytes), refused(18, 122));
     assert_eq!(check(ask(0, 2, 4), &commitment, &bytes), refused(18, 65));
@@ -47,7 +23,7 @@ fn own_keys_are_not_compared() {
 fn keys_are_64_bits_wide() {
     let l = leaf(5, 500, &[1; 32], &[2; 32]);
     let g = group(&known(3, 3, &l));
-    let (commitment, bytes) = proof(&[root(&known((1 << 32) + 1, (1 << 32) + 1, &g))]);
+    let Fitting { commitment, answer: bytes } = proof(&[root(&known((1 << 32) + 1, (1 << 32) + 1, &g))]);
     assert_eq!(check(ask(0, 1, 4), &commitment, &bytes), accepted(1, 0, 0));
 }
 
@@ -57,13 +33,13 @@ fn not_yet_below_n_and_crossed_keys() {
     // Least above greatest means N; the left's least key is above the time asked.
     let n = node(b'N', &known(8, 8, &l), &known(9, 9, &l));
     let g = group(&known(3, 2, &n));
-    let (commitment, bytes) = proof(&[root(&known(1, 1, &g)), g.clone(), n.clone()]);
+    let Fitting { commitment, answer: bytes } = proof(&[root(&known(1, 1, &g)), g.clone(), n.clone()]);
     assert_eq!(check(ask(0, 1, 4), &commitment, &bytes), accepted(2, 0, 0));
     let found = [&bytes[..], &l].concat();
     assert_eq!(check(ask(0, 1, 8), &commitment, &found), accepted(3, 500, 0));
     assert_eq!(check(ask(0, 1, 4), &commitment, &found), refused(18, bytes.len()));
     // In the tree of entities no entity lies within crossed keys.
-    let (commitment, bytes) = proof(&[root(&known(3, 2, &g))]);
+    let Fitting { commitment, answer: bytes } = proof(&[root(&known(3, 2, &g))]);
     for entity in 0..5 {
         assert_eq!(check(ask(0, entity, 4), &commitment, &bytes), accepted(1, 0, 0));
     }
@@ -72,24 +48,7 @@ fn not_yet_below_n_and_crossed_keys() {
 #[test]
 fn long_walks() {
     let l = leaf(1, 6, &sha256(&[0x49, 0]), &[2; 32]);
-    let mut strings = vec![l];
-    let mut top = known(5, 5, &strings[0]);
-    for _ in 0..20_000 {
-        let n = node(b'N', &known(0, 4, b""), &top);
-        top = known(0, 5, &n);
-        strings.push(n);
-    }
-    let g = group(&top);
-    top = known(1, 1, &g);
-    strings.push(g);
-    for _ in 0..20_000 {
-        let p = node(b'P', &top, &known(2, 2, b""));
-        top = known(1, 2, &p);
-        strings.push(p);
-    }
-    strings.push(root(&top));
-    strings.reverse();
-    let (commitment, bytes) = proof(&strings);
+    let Fitting { commitment, answer: bytes } = proof(&long_proof(20_000, l));
     assert_eq!(check(ask(0, 1, 7), &commitment, &bytes), accepted(3, 6, 0));
     let traced = [bytes.clone(), trace(b'B', &[record(b'E', 1, 6, None, &[])])].concat();
     assert_eq!(check(ask(1, 1, 7), &commitment, &traced), accepted(3, 6, 1));
@@ -111,7 +70,7 @@ fn both_edges_of_one_record_from_one_start() {
         (1, leaf(2, 6, &sha256(&i), &[0; 32]), b'B', b'E'),
     ] {
         let g = group(&known(3, 3, &l));
-        let (commitment, bytes) = proof(&[root(&known(1, 1, &g)), g, l]);
+        let Fitting { commitment, answer: bytes } = proof(&[root(&known(1, 1, &g)), g, l]);
         let records = [record(letter, 1, 5, None, &[]), record(b'V', 2, 6, Some(9), &[0, 0])];
         let bytes = [bytes, trace(header, &records)].concat();
         let time = if direction == 1 { 6 } else { 5 };

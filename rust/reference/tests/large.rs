@@ -5,23 +5,10 @@ mod common;
 use common::*;
 use reference::log::{write, Record};
 use reference::random::{overlong_log, records_of_length, Random};
+use reference::sample::{births, in_turn, one_source};
 use reference::{Question, Written};
 
 const MOST: usize = 65_535;
-
-fn births(count: usize) -> Vec<Record> {
-    (0..count).map(|i| Record::Birth { entity: i as u32, time: i as u64 }).collect()
-}
-
-/// Two births, then flows; `turn` gives source and destination.
-fn flows(turn: impl Fn(usize) -> (u32, u32)) -> Vec<Record> {
-    let mut records = births(2);
-    records.extend((2..MOST).map(|i| {
-        let (source, destination) = turn(i);
-        Record::Flow { source, destination, kind: i as u8, time: i as u64 }
-    }));
-    records
-}
 
 fn round_trip(log: &[u8], q: Question, count: u64) {
     let (written, bytes) = answer_with(q, log, 128 * MOST, 1_500_000);
@@ -33,7 +20,7 @@ fn round_trip(log: &[u8], q: Question, count: u64) {
 
 #[test]
 fn record_65536() {
-    for records in [births(MOST), flows(|_| (0, 1)), flows(|i| ((i & 1) as u32, (!i & 1) as u32))] {
+    for records in [births(MOST), one_source(MOST), in_turn(MOST)] {
         let log = write(&records);
         assert_eq!(reference::log(&log), Written { number: 0, position: 0, length: MOST as u64 });
         for extra in [vec![0], birth(u32::MAX, u64::MAX), flow(0, 1, 0, u64::MAX), vec![1]] {
@@ -48,14 +35,14 @@ fn record_65536() {
 
 #[test]
 fn busy_source() {
-    let log = write(&flows(|_| (0, 1)));
+    let log = write(&one_source(MOST));
     round_trip(&log, ask(2, 0, 0), MOST as u64 - 1);
     round_trip(&log, ask(1, 1, u64::MAX), MOST as u64);
 }
 
 #[test]
 fn alternating() {
-    let log = write(&flows(|i| ((i & 1) as u32, (!i & 1) as u32)));
+    let log = write(&in_turn(MOST));
     round_trip(&log, ask(2, 0, 0), MOST as u64 - 1);
     round_trip(&log, ask(1, 1, u64::MAX), MOST as u64);
 }

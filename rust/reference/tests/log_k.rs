@@ -3,6 +3,7 @@
 mod common;
 
 use common::*;
+use reference::forge::{d, e, s, t, trace, v};
 use reference::{Outcome, Part, Question, Written};
 
 const COMMITMENT: &str = "afa480e13388337b3ec74fcea39db57dddd6320386af49166a8fbf0d6f4511e1";
@@ -63,31 +64,19 @@ fn stopped(q: Question, log: &[u8], length: usize, path: &str, verdict: u64) {
 
 #[test]
 fn backward_2_at_35() {
-    let records = [
-        record(b'E', 1, 10, None, &[]),
-        record(b'E', 2, 20, None, &[]),
-        record(b'V', 2, 30, Some(7), &[1, 0]),
-    ];
+    let records = [e(1, 10), e(2, 20), v(2, 30, 7, 1, 0)];
     found(ask(1, 2, 35), 446, "RPGNLB", &records, 30);
 }
 
 #[test]
 fn forward_1_at_39() {
-    let records = [
-        record(b'S', 1, 10, None, &[]),
-        record(b'D', 2, 30, Some(7), &[0]),
-        record(b'V', 1, 40, Some(8), &[0, 1]),
-    ];
+    let records = [s(1, 10), d(2, 30, 7, 0), v(1, 40, 8, 0, 1)];
     found(ask(2, 1, 39), 451, "RPGNLF", &records, 10);
 }
 
 #[test]
 fn forward_2_at_20() {
-    let records = [
-        record(b'S', 2, 20, None, &[]),
-        record(b'T', 2, 30, None, &[0]),
-        record(b'D', 1, 40, Some(8), &[1]),
-    ];
+    let records = [s(2, 20), t(2, 30, 0), d(1, 40, 8, 1)];
     found(ask(2, 2, 20), 446, "RPGNLF", &records, 20);
 }
 

@@ -6,18 +6,8 @@ use common::oracle::Oracle;
 use common::*;
 use reference::log::write;
 use reference::random::{damaged_answer, question, sound_records, Random};
+use reference::sample::questions;
 use reference::Part;
-
-fn near(values: impl Iterator<Item = u64>, most: u64) -> Vec<u64> {
-    let mut all: Vec<u64> = values
-        .flat_map(|value| [value.saturating_sub(1), value, value.saturating_add(1)])
-        .chain([0, most])
-        .filter(|&value| value <= most)
-        .collect();
-    all.sort_unstable();
-    all.dedup();
-    all
-}
 
 /// Every question that the log can tell apart: defined answer, verdict and records.
 #[test]
@@ -25,35 +15,29 @@ fn all_questions_of_small_logs() {
     let mut random = Random::new(4);
     let mut verdicts = [0; 4];
     for _ in 0..250 {
-        let log = write(&sound_records(&mut random, 11));
+        let sound = sound_records(&mut random, 11);
+        let log = write(&sound);
         let oracle = Oracle::new(&log);
         let commitment = commit(&log);
         assert_eq!(commitment, oracle.commitment());
-        let entities = near(oracle.versions.iter().map(|v| u64::from(v.0)), u64::from(u32::MAX));
-        let times = near(oracle.versions.iter().map(|v| v.1), u64::MAX);
-        for &entity in &entities {
-            for &time in &times {
-                for direction in 0..3 {
-                    let q = ask(direction, entity as u32, time);
-                    let bytes = answer(q, &log);
-                    assert_eq!(bytes, oracle.answer(&q), "{q:?}");
-                    let (verdict, time, count) = oracle.verdict(&q);
-                    let work = 128 * count as usize;
-                    assert_eq!(check_with(q, &commitment, &bytes, work), accepted(verdict, time, count));
-                    if count > 0 {
-                        assert_eq!(check_with(q, &commitment, &bytes, work - 1), refused(12, 0));
-                    }
-                    let part = records(q, &commitment, &bytes);
-                    if count == 0 {
-                        assert_eq!(part, Part::default());
-                    } else {
-                        assert_eq!((part.start + part.length) as usize, bytes.len());
-                        let header = part.start as usize - 5;
-                        assert_eq!(bytes[header], if direction == 1 { b'B' } else { b'F' });
-                    }
-                    verdicts[verdict as usize] += 1;
-                }
+        for q in questions(&sound) {
+            let bytes = answer(q, &log);
+            assert_eq!(bytes, oracle.answer(&q), "{q:?}");
+            let (verdict, time, count) = oracle.verdict(&q);
+            let work = 128 * count as usize;
+            assert_eq!(check_with(q, &commitment, &bytes, work), accepted(verdict, time, count));
+            if count > 0 {
+                assert_eq!(check_with(q, &commitment, &bytes, work - 1), refused(12, 0));
             }
+            let part = records(q, &commitment, &bytes);
+            if count == 0 {
+                assert_eq!(part, Part::default());
+            } else {
+                assert_eq!((part.start + part.length) as usize, bytes.len());
+                let header = part.start as usize - 5;
+                assert_eq!(bytes[header], if q.direction == 1 { b'B' } else { b'F' });
+            }
+            verdicts[verdict as usize] += 1;
         }
     }
     assert!(verdicts[1..].iter().all(|&seen| seen > 1000), "{verdicts:?}");

@@ -3,6 +3,7 @@
 mod common;
 
 use common::*;
+use reference::forge::{d, e, s, t, trace, v};
 use reference::random::{log_with_fault, nearly_sound_log, sound_log, sound_records, Random};
 use reference::{Outcome, Written};
 
@@ -122,22 +123,6 @@ impl Case {
     fn forward(&self, tail: &[u8]) -> reference::Checked {
         check(ask(2, 2, 20), &self.commitment, &[&self.proof[..], tail].concat())
     }
-}
-
-fn e(entity: u32, time: u64) -> Vec<u8> {
-    record(b'E', entity, time, None, &[])
-}
-fn s(entity: u32, time: u64) -> Vec<u8> {
-    record(b'S', entity, time, None, &[])
-}
-fn t(entity: u32, time: u64, position: u32) -> Vec<u8> {
-    record(b'T', entity, time, None, &[position])
-}
-fn d(entity: u32, time: u64, kind: u8, position: u32) -> Vec<u8> {
-    record(b'D', entity, time, Some(kind), &[position])
-}
-fn v(entity: u32, time: u64, kind: u8, previous: u32, source: u32) -> Vec<u8> {
-    record(b'V', entity, time, Some(kind), &[previous, source])
 }
 
 #[test]

@@ -18,6 +18,21 @@ mod exported {
         pub length: u64,
     }
 
+    #[repr(C)]
+    pub struct Checked {
+        pub number: u64,
+        pub position: u64,
+        pub verdict: u64,
+        pub time: u64,
+        pub count: u64,
+    }
+
+    #[repr(C)]
+    pub struct Part {
+        pub start: u64,
+        pub length: u64,
+    }
+
     extern "C" {
         pub fn bozhtagul_hash(message: *const u8, message_len: usize, out: *mut u8, out_len: usize) -> Outcome;
         pub fn bozhtagul_log(log: *const u8, log_len: usize) -> Written;
@@ -30,6 +45,39 @@ mod exported {
             out: *mut u8,
             out_len: usize,
         ) -> Outcome;
+        pub fn bozhtagul_check(
+            direction: u8,
+            entity: u32,
+            time: u64,
+            commitment: *const u8,
+            commitment_len: usize,
+            answer: *const u8,
+            answer_len: usize,
+            work: *mut u8,
+            work_len: usize,
+        ) -> Checked;
+        pub fn bozhtagul_records(
+            direction: u8,
+            entity: u32,
+            time: u64,
+            commitment: *const u8,
+            commitment_len: usize,
+            answer: *const u8,
+            answer_len: usize,
+            work: *mut u8,
+            work_len: usize,
+        ) -> Part;
+        pub fn bozhtagul_answer(
+            direction: u8,
+            entity: u32,
+            time: u64,
+            log: *const u8,
+            log_len: usize,
+            work: *mut u8,
+            work_len: usize,
+            out: *mut u8,
+            out_len: usize,
+        ) -> Written;
     }
 }
 
@@ -38,6 +86,43 @@ mod exported {
 pub struct Refusal {
     pub number: u64,
     pub position: u64,
+}
+
+/// Which way a question looks.
+#[derive(Clone, Copy, Debug, PartialEq, Eq)]
+pub enum Direction {
+    VersionOnly,
+    Backward,
+    Forward,
+    /// Any byte, as it is handed over; above 2 it is row 11.
+    Raw(u8),
+}
+
+impl Direction {
+    fn number(self) -> u8 {
+        match self {
+            Direction::VersionOnly => 0,
+            Direction::Backward => 1,
+            Direction::Forward => 2,
+            Direction::Raw(number) => number,
+        }
+    }
+}
+
+/// Which version of the entity stood at the time, and what led to it or came of it.
+#[derive(Clone, Copy, Debug, PartialEq, Eq)]
+pub struct Question {
+    pub direction: Direction,
+    pub entity: u32,
+    pub time: u64,
+}
+
+/// What an accepted answer says. A found version has its time, and its trace the number of records (0 without a trace).
+#[derive(Clone, Copy, Debug, PartialEq, Eq)]
+pub enum Verdict {
+    NoEntity,
+    NotYet,
+    Found { time: u64, count: u64 },
 }
 
 fn accepted(outcome: exported::Outcome) -> Result<(), Refusal> {
@@ -85,7 +170,72 @@ pub fn commitment(log: &[u8], work: &mut [u8], out: &mut [u8]) -> Result<(), Ref
     })
 }
 
+/// Writes the answer to a question about a log to the first bytes of `out`, and gives its length; else the row of 1 to 13 that the call
+/// meets, and `out` stays as it was. The work area is as for `commitment`. An answer has at most 3,211 bytes and 22 a record.
+pub fn answer(question: &Question, log: &[u8], work: &mut [u8], out: &mut [u8]) -> Result<u64, Refusal> {
+    counted(unsafe {
+        exported::bozhtagul_answer(
+            question.direction.number(),
+            question.entity,
+            question.time,
+            log.as_ptr(),
+            log.len(),
+            work.as_mut_ptr(),
+            work.len(),
+            out.as_mut_ptr(),
+            out.len(),
+        )
+    })
+}
+
+/// The arguments that `check` and `records` share, handed to one of the two.
+macro_rules! on_answer {
+    ($call:ident, $question:expr, $commitment:expr, $answer:expr, $work:expr) => {
+        unsafe {
+            exported::$call(
+                $question.direction.number(),
+                $question.entity,
+                $question.time,
+                $commitment.as_ptr(),
+                $commitment.len(),
+                $answer.as_ptr(),
+                $answer.len(),
+                $work.as_mut_ptr(),
+                $work.len(),
+            )
+        }
+    };
+}
+
+/// Checks an answer against a commitment: the verdict, if the answer is accepted; else the row of 11, 12 and 14 to 24 that it meets. The
+/// work area takes 128 bytes a record of the trace (`work_for`), and is all zero afterwards.
+pub fn check(question: &Question, commitment: &[u8], answer: &[u8], work: &mut [u8]) -> Result<Verdict, Refusal> {
+    let checked = on_answer!(bozhtagul_check, question, commitment, answer, work);
+    match (checked.number, checked.verdict) {
+        (0, 1) => Ok(Verdict::NoEntity),
+        (0, 2) => Ok(Verdict::NotYet),
+        (0, 3) => Ok(Verdict::Found { time: checked.time, count: checked.count }),
+        (0, verdict) => unreachable!("there is no verdict {verdict}"),
+        (number, _) => Err(Refusal { number, position: checked.position }),
+    }
+}
+
+/// The checked records as that part of the answer, without the trace header; empty if there are none or the check refuses. The work area
+/// is as for `check`.
+pub fn records<'a>(question: &Question, commitment: &[u8], answer: &'a [u8], work: &mut [u8]) -> &'a [u8] {
+    let part = on_answer!(bozhtagul_records, question, commitment, answer, work);
+    &answer[part.start as usize..][..part.length as usize]
+}
+
 /// A work area for that many records.
 pub fn work_area(records: usize) -> Vec<u8> {
     vec![0; 128 * records]
+}
+
+/// A work area for the check of an answer: for as many records as an answer of its length has room for, and no more than a trace may have.
+/// An answer that claims more of them than it has room for meets row 12.
+pub fn work_for(answer: &[u8]) -> Vec<u8> {
+    const LEAST_RECORD: usize = 13;
+    const MOST_RECORDS: usize = 65_535;
+    work_area((answer.len() / LEAST_RECORD).min(MOST_RECORDS))
 }

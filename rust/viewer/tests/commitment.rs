@@ -2,15 +2,8 @@
 
 use reference::log::{write, Record};
 use reference::random::{self, Random};
+use reference::sample::{self, birth, births, flow, one_source};
 use viewer::Refusal;
-
-fn birth(entity: u32, time: u64) -> Record {
-    Record::Birth { entity, time }
-}
-
-fn flow(source: u32, destination: u32, kind: u8, time: u64) -> Record {
-    Record::Flow { source, destination, kind, time }
-}
 
 /// The call with a work area and an output of the given lengths, filled with a pattern, and the same call of the Rust version: result and
 /// final memory must agree.
@@ -46,7 +39,7 @@ fn every_size(random: &mut Random, records: &[Record]) {
 
 #[test]
 fn log_k() {
-    let k = [birth(1, 10), birth(2, 20), flow(1, 2, 7, 30), flow(2, 1, 8, 40)];
+    let k = sample::log_k();
     let mut random = Random::new(31);
     every_size(&mut random, &k);
     // as computed from the definitions in `crates/logk`
@@ -64,11 +57,8 @@ fn every_shape_of_tree() {
             every_size(&mut random, &records);
         }
         // as many leaves in the tree of entities, and in one entity's tree
-        let births: Vec<Record> = (0..length as u32).map(|n| birth(n * 7, n.into())).collect();
-        every_size(&mut random, &births);
-        let flows = (0..length as u64).map(|n| flow(1, 2, n as u8, 2 + n));
-        let one: Vec<Record> = [birth(1, 0), birth(2, 1)].into_iter().chain(flows).collect();
-        every_size(&mut random, &one);
+        every_size(&mut random, &births(length));
+        every_size(&mut random, &one_source(2 + length));
     }
 }
 
@@ -100,10 +90,6 @@ fn the_most_records() {
     let sound = &fault.log[..fault.position as usize];
     assert_eq!(commit(&mut random, sound, 128 * 65_535, 32).0, Ok(()));
     assert_eq!(commit(&mut random, sound, 128 * 65_535 - 1, 32).0, refused(12, 0));
-    // one source of 65,533 flows
-    let flows = (0..65_533).map(|n| flow(1, 2, n as u8, 2 + n));
-    let busy: Vec<Record> = [birth(1, 0), birth(2, 1)].into_iter().chain(flows).collect();
-    every_size(&mut random, &busy);
-    let births: Vec<Record> = (0..65_535).map(|n| birth(n, n.into())).collect();
-    every_size(&mut random, &births);
+    every_size(&mut random, &one_source(65_535));
+    every_size(&mut random, &births(65_535));
 }

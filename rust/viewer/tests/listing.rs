@@ -2,24 +2,13 @@
 
 use reference::log::{write, Record};
 use reference::random::{self, Random};
+use reference::sample::{birth, births, flow, in_turn, log_k};
 use std::io::Write;
 use std::process::{Command, Stdio};
 use viewer::Refusal;
 
 /// The proved program, which `rt` builds.
 const PROGRAM: &str = concat!(env!("CARGO_MANIFEST_DIR"), "/../../target/bin/listing_main");
-
-fn birth(entity: u32, time: u64) -> Record {
-    Record::Birth { entity, time }
-}
-
-fn flow(source: u32, destination: u32, kind: u8, time: u64) -> Record {
-    Record::Flow { source, destination, kind, time }
-}
-
-fn births(count: u32) -> Vec<Record> {
-    (0..count).map(|n| birth(n, n.into())).collect()
-}
 
 /// Into an output of some length: the whole output afterwards, and the result, are those of the Rust version.
 fn list_into(random: &mut Random, input: &[u8], length: usize) -> Result<u64, Refusal> {
@@ -54,14 +43,10 @@ fn run(input: &[u8]) -> String {
     String::from_utf8(program.wait_with_output().unwrap().stdout).unwrap()
 }
 
-fn log_k() -> Vec<Record> {
-    vec![birth(1, 10), birth(2, 20), flow(1, 2, 7, 30), flow(2, 1, 8, 40)]
-}
-
 /// Inputs with what is printed for them, by hand.
 fn by_hand() -> Vec<(Vec<u8>, &'static str)> {
     let then = |more: &[Record]| write(&[&log_k()[..], more].concat());
-    let after = |count: u32, more: &[u8]| [&write(&births(count))[..], more].concat();
+    let after = |count: usize, more: &[u8]| [&write(&births(count))[..], more].concat();
     vec![
         (write(&log_k()), "1 10 birth\n2 20 birth\n2 30 flow 7 from 1 10\n1 40 flow 8 from 2 30\n"),
         (vec![], "refused 1 at 0\n"),
@@ -86,8 +71,7 @@ fn by_hand() -> Vec<(Vec<u8>, &'static str)> {
 
 /// The longest input that is listed: 2 births and 510 flows; and with more bytes up to the limit, and above it.
 fn longest() -> [Vec<u8>; 3] {
-    let flows = (0..510).map(|i| flow(i as u32 % 2, 1 - i as u32 % 2, i as u8, 2 + i));
-    let log = write(&births(2).into_iter().chain(flows).collect::<Vec<_>>());
+    let log = write(&in_turn(512));
     assert_eq!(log.len(), 9206);
     [log.clone(), [&log[..], &[2; 10]].concat(), [&log[..], &[2; 11]].concat()]
 }
@@ -121,7 +105,7 @@ fn texts_by_hand() {
     let [log, full, above] = longest();
     let text = list(random, &log);
     assert_eq!(text.lines().count(), 512);
-    assert!(text.ends_with("\n0 511 flow 253 from 1 510\n"));
+    assert!(text.ends_with("\n0 511 flow 255 from 1 510\n"));
     assert_eq!(list(random, &full), "too long\n");
     assert_eq!(list(random, &above), "too long\n");
 }

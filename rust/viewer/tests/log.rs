@@ -2,15 +2,8 @@
 
 use reference::log::{write, Record};
 use reference::random::{self, Random};
+use reference::sample::{birth, births, flow, log_k};
 use viewer::Refusal;
-
-fn birth(entity: u32, time: u64) -> Record {
-    Record::Birth { entity, time }
-}
-
-fn flow(source: u32, destination: u32, kind: u8, time: u64) -> Record {
-    Record::Flow { source, destination, kind, time }
-}
 
 fn refused(number: u64, position: u64) -> Result<u64, Refusal> {
     Err(Refusal { number, position })
@@ -29,7 +22,7 @@ fn read(log: &[u8]) -> Result<u64, Refusal> {
 
 #[test]
 fn rows_by_hand() {
-    let k = [birth(1, 10), birth(2, 20), flow(1, 2, 7, 30), flow(2, 1, 8, 40)];
+    let k = log_k();
     let then = |more: &[Record]| write(&[&k[..], more].concat());
     assert_eq!(read(&write(&k)), Ok(4));
     assert_eq!(read(&[]), refused(1, 0));
@@ -87,6 +80,5 @@ fn the_most_records() {
         assert_eq!(read(&fault.log[..sound.len() + 1]), refused(2, fault.position));
         assert_eq!(read(&fault.log), refused(2, fault.position));
     }
-    let births: Vec<Record> = (0..65_535).map(|n| birth(n, n.into())).collect();
-    assert_eq!(read(&write(&births)), Ok(65_535));
+    assert_eq!(read(&write(&births(65_535))), Ok(65_535));
 }

@@ -1,0 +1,216 @@
+//! Strings, traces and answers written by hand, for tests: they need not be a log's.
+
+use crate::graph::{incoming_digests, outgoing_digests, Name, Version};
+use crate::sha256::{sha256, Digest};
+use crate::tree::{leaf_string, Subtree, GROUP, LEAF, NODE, ROOT};
+use crate::{Question, BACKWARD};
+
+/// A trace record: letter, entity, time, then the bytes of the rest.
+pub fn record(letter: u8, entity: u32, time: u64, kind: Option<u8>, positions: &[u32]) -> Vec<u8> {
+    let mut bytes = vec![letter];
+    bytes.extend_from_slice(&entity.to_be_bytes());
+    bytes.extend_from_slice(&time.to_be_bytes());
+    bytes.extend(kind);
+    for position in positions {
+        bytes.extend_from_slice(&position.to_be_bytes());
+    }
+    bytes
+}
+
+pub fn e(entity: u32, time: u64) -> Vec<u8> {
+    record(b'E', entity, time, None, &[])
+}
+
+pub fn s(entity: u32, time: u64) -> Vec<u8> {
+    record(b'S', entity, time, None, &[])
+}
+
+pub fn t(entity: u32, time: u64, position: u32) -> Vec<u8> {
+    record(b'T', entity, time, None, &[position])
+}
+
+pub fn d(entity: u32, time: u64, kind: u8, position: u32) -> Vec<u8> {
+    record(b'D', entity, time, Some(kind), &[position])
+}
+
+pub fn v(entity: u32, time: u64, kind: u8, previous: u32, source: u32) -> Vec<u8> {
+    record(b'V', entity, time, Some(kind), &[previous, source])
+}
+
+/// The trace of some records, with their number as its count.
+pub fn trace(letter: u8, records: &[Vec<u8>]) -> Vec<u8> {
+    trace_with_count(letter, records.len() as u32, records)
+}
+
+pub fn trace_with_count(letter: u8, count: u32, records: &[Vec<u8>]) -> Vec<u8> {
+    [&[letter][..], &count.to_be_bytes(), &records.concat()].concat()
+}
+
+/// The header's letter in a direction with a trace.
+pub fn trace_letter(direction: u8) -> u8 {
+    if direction == BACKWARD {
+        b'B'
+    } else {
+        b'F'
+    }
+}
+
+/// The records that show versions and their edges, whatever the positions.
+pub fn records_of(direction: u8, versions: &[Version]) -> Vec<Vec<u8>> {
+    versions.iter().map(|version| record_of(direction, version)).collect()
+}
+
+fn record_of(direction: u8, version: &Version) -> Vec<u8> {
+    let letter = match (version.temporal, version.dependency) {
+        (None, None) if direction == BACKWARD => b'E',
+        (None, None) => b'S',
+        (Some(_), None) => b'T',
+        (None, Some(_)) => b'D',
+        (Some(_), Some(_)) => b'V',
+    };
+    let source = version.dependency.map(|edge| edge.source);
+    let positions: Vec<u32> = version.temporal.into_iter().chain(source).map(|position| position as u32).collect();
+    record(letter, version.name.entity, version.name.time, version.dependency.map(|edge| edge.kind), &positions)
+}
+
+pub fn trace_of(direction: u8, versions: &[Version]) -> Vec<u8> {
+    trace(trace_letter(direction), &records_of(direction, versions))
+}
+
+/// All positions are below the record's own.
+pub fn fits(versions: &[Version]) -> bool {
+    versions.iter().enumerate().all(|(own, version)| {
+        version.temporal.is_none_or(|start| start < own)
+            && version.dependency.is_none_or(|edge| edge.source < own)
+    })
+}
+
+/// The place of the found version's record.
+pub fn found_place(direction: u8, versions: &[Version]) -> usize {
+    if direction == BACKWARD {
+        versions.len() - 1
+    } else {
+        0
+    }
+}
+
+/// A subtree's 48 bytes with any keys.
+pub fn known(least: u64, greatest: u64, string: &[u8]) -> Vec<u8> {
+    Subtree { least, greatest, digest: sha256(string) }.bytes().to_vec()
+}
+
+/// N or P over two subtrees' bytes.
+pub fn node(letter: u8, left: &[u8], right: &[u8]) -> Vec<u8> {
+    [&[letter], left, right].concat()
+}
+
+/// R with numbers that no log has.
+pub fn root(tree: &[u8]) -> Vec<u8> {
+    [&b"R"[..], &[9; 16], tree].concat()
+}
+
+/// G with an entity that nobody asks for.
+pub fn group(tree: &[u8]) -> Vec<u8> {
+    [&b"G"[..], &[7; 8], tree].concat()
+}
+
+pub fn leaf(entity: u32, time: u64, incoming: &Digest, outgoing: &Digest) -> Vec<u8> {
+    leaf_string(Name { entity, time }, incoming, outgoing).to_vec()
+}
+
+/// A commitment, and an answer whose proof strings fit it.
+#[derive(Clone, Debug)]
+pub struct Fitting {
+    pub commitment: Digest,
+    pub answer: Vec<u8>,
+}
+
+/// The proof strings, top down, as an answer with its commitment.
+pub fn proof(strings: &[Vec<u8>]) -> Fitting {
+    Fitting { commitment: sha256(&strings[0]), answer: strings.concat() }
+}
+
+/// R, G and a given L for any entity and time from those asked on.
+pub fn proof_of_leaf(question: &Question, l: Vec<u8>) -> Fitting {
+    let g = group(&known(question.time, question.time, &l));
+    let entity = u64::from(question.entity);
+    proof(&[root(&known(entity, entity, &g)), g, l])
+}
+
+/// R, G and an L with the name and the path digests that a trace of any versions shows, if their positions fit.
+pub fn proof_of_found(question: &Question, versions: &[Version]) -> Fitting {
+    let found = found_place(question.direction, versions);
+    let Name { entity, time } = versions[found].name;
+    let (incoming, outgoing) = (incoming_digests(versions)[found], outgoing_digests(versions)[found]);
+    proof_of_leaf(question, leaf(entity, time, &incoming, &outgoing))
+}
+
+/// The same, with the trace.
+pub fn proof_of_trace(question: &Question, versions: &[Version]) -> Fitting {
+    let mut fitting = proof_of_found(question, versions);
+    fitting.answer.extend(trace_of(question.direction, versions));
+    fitting
+}
+
+/// A proof of `depth` P strings and as many N strings, whose last is the given L.
+pub fn long_proof(depth: usize, l: Vec<u8>) -> Vec<Vec<u8>> {
+    let mut top = known(5, 5, &l);
+    let mut strings = vec![l];
+    for _ in 0..depth {
+        let n = node(b'N', &known(0, 4, b""), &top);
+        top = known(0, 5, &n);
+        strings.push(n);
+    }
+    let g = group(&top);
+    top = known(1, 1, &g);
+    strings.push(g);
+    for _ in 0..depth {
+        let p = node(b'P', &top, &known(2, 2, b""));
+        top = known(1, 2, &p);
+        strings.push(p);
+    }
+    strings.push(root(&top));
+    strings.reverse();
+    strings
+}
+
+/// The pieces of a whole answer, each known by its letter.
+pub struct Pieces {
+    pub strings: Vec<Vec<u8>>,
+    /// None without a trace.
+    pub header: Option<Vec<u8>>,
+    pub records: Vec<Vec<u8>>,
+}
+
+pub fn pieces(answer: &[u8]) -> Pieces {
+    let mut strings = Vec::new();
+    let mut rest = answer;
+    while let Some(&letter) = rest.first() {
+        let (piece, after) = rest.split_at(width(letter));
+        strings.push(piece.to_vec());
+        rest = after;
+    }
+    let end = strings.iter().position(|piece| b"BF".contains(&piece[0])).unwrap_or(strings.len());
+    let mut trace = strings.split_off(end).into_iter();
+    Pieces { strings, header: trace.next(), records: trace.collect() }
+}
+
+fn width(letter: u8) -> usize {
+    match letter {
+        b'R' => ROOT,
+        b'P' | b'N' => NODE,
+        b'G' => GROUP,
+        b'L' => LEAF,
+        b'B' | b'F' => 5,
+        b'E' | b'S' => 13,
+        b'T' => 17,
+        b'D' => 18,
+        b'V' => 22,
+        _ => panic!("no piece has the letter {letter}"),
+    }
+}
+
+/// The versions that whole records show.
+pub fn versions_of(records: &[Vec<u8>]) -> Vec<Version> {
+    records.iter().map(|record| crate::check::decode_record(record)).collect()
+}

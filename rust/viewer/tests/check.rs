@@ -1,0 +1,198 @@
+//! The exported check of honest answers, against the Rust version: every question, every size of work area, the most records.
+
+mod common;
+
+use common::*;
+use reference::forge::{d, e, s, t, v};
+use reference::host::Host;
+use reference::log::Record;
+use reference::random::{self, Random};
+use reference::sample::{birth, births, in_turn, log_k, one_source, questions};
+use reference::Question;
+use viewer::{Direction, Verdict};
+
+const MOST: usize = 65_535;
+
+/// The defined answer's check with exactly enough work area, with more, and with one byte too few; gives the verdict.
+fn every_size(asked: &Asked, met: &mut Met) -> Verdict {
+    let verdict = asked.check(&asked.defined, 1 << 14).expect("the defined answer is accepted");
+    let records = match verdict {
+        Verdict::Found { count, .. } => count as usize,
+        _ => 0,
+    };
+    for work in [128 * records, 128 * records + 1] {
+        let checked = asked.check(&asked.defined, work);
+        assert_eq!(checked, Ok(verdict));
+        met.add(&asked.question, &checked);
+    }
+    if records > 0 {
+        let short = asked.check(&asked.defined, 128 * records - 1);
+        assert_eq!(short, refused(12, 0));
+        met.add(&asked.question, &short);
+    }
+    verdict
+}
+
+/// A question of Log K, the length and records of its answer, and its verdict.
+fn log_k_case(question: Question, length: usize, records: &[Vec<u8>], verdict: Verdict) {
+    let asked = Asked::new(&Host::new(&log_k()), question);
+    assert_eq!(asked.defined.len(), length);
+    assert_eq!(every_size(&asked, &mut Met::default()), verdict);
+    let mut work = viewer::work_for(&asked.defined);
+    let part = viewer::records(&typed(&question), &asked.commitment, &asked.defined, &mut work);
+    assert_eq!(part, records.concat());
+}
+
+#[test]
+fn log_k_found() {
+    let found = |time, count| Verdict::Found { time, count };
+    log_k_case(ask(1, 2, 35), 446, &[e(1, 10), e(2, 20), v(2, 30, 7, 1, 0)], found(30, 3));
+    log_k_case(ask(2, 1, 39), 451, &[s(1, 10), d(2, 30, 7, 0), v(1, 40, 8, 0, 1)], found(10, 3));
+    log_k_case(ask(2, 2, 20), 446, &[s(2, 20), t(2, 30, 0), d(1, 40, 8, 1)], found(20, 3));
+    log_k_case(ask(0, 2, 35), 393, &[], found(30, 0));
+    log_k_case(ask(0, 1, u64::MAX), 393, &[], found(40, 0));
+}
+
+#[test]
+fn log_k_not_found() {
+    for direction in 0..3 {
+        log_k_case(ask(direction, 2, 19), 219, &[], Verdict::NotYet);
+        log_k_case(ask(direction, 3, 35), 65, &[], Verdict::NoEntity);
+        log_k_case(ask(direction, 0, 35), 65, &[], Verdict::NoEntity);
+        let gap = Asked::new(&Host::new(&[birth(1, 10), birth(5, 20)]), ask(direction, 3, 35));
+        assert_eq!(gap.defined.len(), 162);
+        assert_eq!(every_size(&gap, &mut Met::default()), Verdict::NoEntity);
+    }
+}
+
+#[test]
+fn log_k_work_area() {
+    let asked = Asked::new(&Host::new(&log_k()), ask(1, 2, 35));
+    assert_eq!(asked.check(&asked.defined, 384), found(30, 3));
+    assert_eq!(asked.check(&asked.defined, 383), refused(12, 0));
+}
+
+/// Every question about random logs.
+fn all_questions(seed: u64, logs: usize, most: usize) {
+    let mut random = Random::new(seed);
+    let mut met = Met::default();
+    let mut verdicts = [0; 3];
+    for _ in 0..logs {
+        let records = random::sound_records(&mut random, most);
+        let host = Host::new(&records);
+        for question in questions(&records) {
+            match every_size(&Asked::new(&host, question), &mut met) {
+                Verdict::NoEntity => verdicts[0] += 1,
+                Verdict::NotYet => verdicts[1] += 1,
+                Verdict::Found { .. } => verdicts[2] += 1,
+            }
+        }
+    }
+    met.exactly(0, 2_000, &[0]);
+    met.exactly(1, 2_000, &[0, 12]);
+    met.exactly(2, 2_000, &[0, 12]);
+    assert!(verdicts.iter().all(|times| *times > 2_000), "{verdicts:?}");
+}
+
+#[test]
+fn all_questions_of_tiny_logs() {
+    all_questions(41, 150, 8);
+}
+
+#[test]
+fn all_questions_of_small_logs() {
+    all_questions(42, 8, 40);
+}
+
+/// An answer to another question, or to another log's, is refused unless it is the defined one.
+#[test]
+fn answers_to_other_questions() {
+    let mut random = Random::new(43);
+    let mut met = Met::default();
+    for _ in 0..30_000 {
+        let records = random::sound_records(&mut random, 10);
+        let host = Host::new(&records);
+        let mut known = || Question { direction: random.below(3) as u8, ..random::question(&mut random, &records) };
+        let (asked, other) = (Asked::new(&host, known()), Asked::new(&host, known()));
+        let checked = asked.check(&other.defined, 1 << 12);
+        assert_eq!(checked.is_ok(), asked.defined == other.defined);
+        met.add(&asked.question, &checked);
+        let foreign = Host::new(&random::sound_records(&mut random, 10)).commitment();
+        let checked = check(&asked.question, &foreign, &asked.defined, 1 << 12);
+        assert_eq!(checked.is_ok(), foreign == asked.commitment);
+    }
+    met.exactly(0, 100, &[0, 15, 16, 17, 18]);
+    met.exactly(1, 100, &[0, 15, 16, 17, 18]);
+    met.exactly(2, 100, &[0, 15, 16, 17, 18]);
+}
+
+/// A raw direction of 0 to 2 is the named one.
+#[test]
+fn raw_directions() {
+    for direction in 0..3 {
+        let asked = Asked::new(&Host::new(&log_k()), ask(direction, 2, 35));
+        let raw = viewer::Question { direction: Direction::Raw(direction), ..typed(&asked.question) };
+        let check = |question| with_work(384, |work| viewer::check(question, &asked.commitment, &asked.defined, work));
+        assert!(check(&raw).is_ok());
+        assert_eq!(check(&raw), check(&typed(&asked.question)));
+    }
+}
+
+/// Any direction with any length of commitment.
+#[test]
+fn directions_and_commitments() {
+    let asked = Asked::new(&Host::new(&log_k()), ask(1, 2, 35));
+    let mut met = Met::default();
+    for direction in 0..=255 {
+        for length in 0..=70 {
+            let question = Question { direction, ..asked.question };
+            let mut commitment = asked.commitment.to_vec();
+            commitment.resize(length, 0);
+            let checked = check(&question, &commitment, &asked.defined, 384);
+            met.add(&question, &checked);
+            assert_eq!(checked.is_ok(), direction == 1 && length == 32);
+        }
+    }
+    met.exactly(0, 1, &[14, 18]);
+    met.exactly(1, 1, &[0, 14]);
+    met.exactly(2, 1, &[14, 16]);
+    met.exactly(3, 253 * 71, &[11]);
+}
+
+/// A full history of the most records: accepted with that many records, refused with one byte of work area less, with a kind altered in
+/// the middle, with the last byte cut off and with one more.
+fn full_history(records: &[Record], question: Question, count: usize) {
+    let asked = Asked::new(&Host::new(records), question);
+    let work = 128 * count;
+    let answer = asked.defined.clone();
+    let Ok(Verdict::Found { count: counted, .. }) = asked.check(&answer, work) else { panic!("it is accepted") };
+    assert_eq!(counted, count as u64);
+    assert_eq!(asked.check(&answer, work - 1), refused(12, 0));
+    assert_eq!(asked.check(&[&answer[..], &[0]].concat(), work), refused(18, answer.len()));
+    let number = |answer: &[u8]| asked.check(answer, work).unwrap_err().number;
+    assert_eq!(number(&answer[..answer.len() - 1]), 15);
+    let mut altered = answer.clone();
+    let middle = answer.len() - 22 * (count / 2) - 22 + 13;
+    altered[middle] ^= 1;
+    assert_eq!(number(&altered), 24);
+}
+
+#[test]
+fn the_most_records_backward() {
+    full_history(&one_source(MOST), ask(1, 1, u64::MAX), MOST);
+    full_history(&in_turn(MOST), ask(1, 1, u64::MAX), MOST);
+}
+
+#[test]
+fn the_most_records_forward() {
+    full_history(&in_turn(MOST), ask(2, 0, 0), MOST - 1);
+    let asked = Asked::new(&Host::new(&births(MOST)), ask(2, 40_000, u64::MAX));
+    assert_eq!(asked.check(&asked.defined, 128), found(40_000, 1));
+}
+
+#[test]
+fn one_source_of_the_most_flows() {
+    let asked = Asked::new(&Host::new(&one_source(MOST)), ask(2, 0, 0));
+    assert_eq!(asked.check(&asked.defined, 128 * (MOST - 1)), found(0, MOST as u64 - 1));
+    assert_eq!(asked.check(&asked.defined, 128 * (MOST - 1) - 1), refused(12, 0));
+}

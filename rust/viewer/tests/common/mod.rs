@@ -1,0 +1,142 @@
+//! Shared by the tests of the calls on questions: each call beside the Rust version's, and a count of the rows that were met.
+#![allow(dead_code)]
+
+use reference::check::{self as rows, Accepted};
+use reference::forge::{pieces, versions_of, Pieces};
+use reference::graph::Version;
+use reference::host::Host;
+use reference::random::{self, Random};
+use reference::sha256::Digest;
+use reference::Question;
+use viewer::{Direction, Refusal, Verdict};
+
+pub type Checked = Result<Verdict, Refusal>;
+
+pub fn ask(direction: u8, entity: u32, time: u64) -> Question {
+    Question { direction, entity, time }
+}
+
+/// The question as the library's own type has it.
+pub fn typed(question: &Question) -> viewer::Question {
+    let direction = match question.direction {
+        0 => Direction::VersionOnly,
+        1 => Direction::Backward,
+        2 => Direction::Forward,
+        other => Direction::Raw(other),
+    };
+    viewer::Question { direction, entity: question.entity, time: question.time }
+}
+
+pub fn refused<T>(number: u64, position: usize) -> Result<T, Refusal> {
+    Err(Refusal { number, position: position as u64 })
+}
+
+pub fn found(time: u64, count: u64) -> Checked {
+    Ok(Verdict::Found { time, count })
+}
+
+/// A call with a work area of that many bytes, none of them zero before and all of them zero after.
+pub fn with_work<T>(length: usize, call: impl FnOnce(&mut [u8]) -> T) -> T {
+    let mut work = vec![0xa5; length];
+    let result = call(&mut work);
+    assert!(work.iter().all(|byte| *byte == 0), "the work area is not zero");
+    result
+}
+
+/// Checks an answer with a work area of that many bytes. Verdict, row and position, and the place of the records, are the Rust version's.
+pub fn check(question: &Question, commitment: &[u8], answer: &[u8], work: usize) -> Checked {
+    let asked = typed(question);
+    let expected = rows::check(question, commitment, answer, work);
+    let place = expected.as_ref().ok().and_then(|accepted| accepted.records.clone()).unwrap_or(0..0);
+    let given = with_work(work, |work| viewer::check(&asked, commitment, answer, work));
+    assert_eq!(given, expected.map(verdict).map_err(refusal), "{question:?}");
+    let part = with_work(work, |work| viewer::records(&asked, commitment, answer, work));
+    let start = part.as_ptr() as usize - answer.as_ptr() as usize;
+    assert_eq!(start..start + part.len(), place, "{question:?}");
+    given
+}
+
+fn verdict(accepted: Accepted) -> Verdict {
+    match accepted.verdict {
+        rows::Verdict::NoEntity => Verdict::NoEntity,
+        rows::Verdict::NotYet => Verdict::NotYet,
+        rows::Verdict::Found { time, count } => Verdict::Found { time, count },
+    }
+}
+
+fn refusal(refusal: reference::Refusal) -> Refusal {
+    Refusal { number: refusal.number, position: refusal.position }
+}
+
+/// A question about a sound log, with the log's commitment and the defined answer.
+pub struct Asked {
+    pub question: Question,
+    pub commitment: Digest,
+    pub defined: Vec<u8>,
+}
+
+impl Asked {
+    pub fn new(host: &Host, question: Question) -> Self {
+        Asked { question, commitment: host.commitment(), defined: host.answer(&question) }
+    }
+
+    /// The check of any bytes: those that pass are the defined answer.
+    pub fn check(&self, answer: &[u8], work: usize) -> Checked {
+        let checked = check(&self.question, &self.commitment, answer, work);
+        assert!(checked.is_err() || answer == self.defined, "{:?}: a false answer passes", self.question);
+        checked
+    }
+}
+
+/// A question whose answer has a trace: its proof, and the versions that the trace shows.
+pub struct Traced {
+    pub asked: Asked,
+    pub proof: Vec<u8>,
+    pub versions: Vec<Version>,
+}
+
+/// One about a random log.
+pub fn any_traced(random: &mut Random, direction: u8, most: usize) -> Traced {
+    loop {
+        let records = random::sound_records(random, most);
+        let question = Question { direction, ..random::question(random, &records) };
+        let asked = Asked::new(&Host::new(&records), question);
+        let Pieces { strings, header, records } = pieces(&asked.defined);
+        if header.is_some() {
+            return Traced { asked, proof: strings.concat(), versions: versions_of(&records) };
+        }
+    }
+}
+
+/// How often each row was met (0: accepted), by direction; all directions above 2 are counted as 3.
+#[derive(Default)]
+pub struct Met {
+    rows: [[usize; 25]; 4],
+}
+
+impl Met {
+    pub fn add<T>(&mut self, question: &Question, result: &Result<T, Refusal>) {
+        let number = result.as_ref().err().map_or(0, |refusal| refusal.number);
+        self.rows[question.direction.min(3) as usize][number as usize] += 1;
+    }
+
+    /// In a direction each of these rows was met so many times at least.
+    pub fn includes(&self, direction: usize, least: usize, rows: &[usize]) {
+        for &number in rows {
+            let times = self.rows[direction][number];
+            assert!(times >= least, "direction {direction}: row {number} is met {times} times");
+        }
+    }
+
+    /// Also, no other row was met.
+    pub fn exactly(&self, direction: usize, least: usize, rows: &[usize]) {
+        self.includes(direction, least, rows);
+        for (number, times) in self.rows[direction].iter().enumerate() {
+            assert!(*times == 0 || rows.contains(&number), "direction {direction}: row {number} is met");
+        }
+    }
+
+    pub fn total(&self) -> usize {
+        self.rows.iter().flatten().sum()
+    }
+}

@@ -1,0 +1,176 @@
+//! The exported check of damaged answers, against the Rust version: every byte altered, every cut, bytes added, and traces whose records
+//! are whole but show something else. None of them passes.
+
+mod common;
+
+use common::*;
+use reference::edit::edit;
+use reference::forge::{records_of, trace_letter, trace_with_count};
+use reference::host::Host;
+use reference::random::{self, Random};
+use reference::sample::log_k;
+use reference::Question;
+
+/// Enough for the records that these answers claim, unless a change makes them claim more.
+const WORK: usize = 128 * 12;
+
+/// Every cut of the answer, and bytes added: any one, and some more.
+fn cut_and_extend(asked: &Asked, met: &mut Met) {
+    let good = &asked.defined;
+    for length in 0..good.len() {
+        let checked = asked.check(&good[..length], WORK);
+        assert_eq!(checked.unwrap_err().number, 15);
+        met.add(&asked.question, &checked);
+    }
+    for extra in 0..=255 {
+        for longer in [[&good[..], &[extra]].concat(), [&good[..], &[extra; 22]].concat()] {
+            let checked = asked.check(&longer, WORK);
+            assert_eq!(checked, refused(18, good.len()));
+            met.add(&asked.question, &checked);
+        }
+    }
+}
+
+/// Every byte of the answer altered to each of the values that `values` gives for it and its place.
+fn alter(asked: &Asked, met: &mut Met, values: impl Fn(u8, usize) -> Vec<u8>) {
+    let mut bytes = asked.defined.clone();
+    for place in 0..bytes.len() {
+        let good = bytes[place];
+        for value in values(good, place) {
+            bytes[place] = value;
+            let checked = asked.check(&bytes, WORK);
+            assert!(checked.is_err());
+            met.add(&asked.question, &checked);
+        }
+        bytes[place] = good;
+    }
+}
+
+/// Every value of every byte of Log K's answer.
+fn every_value(question: Question) -> Met {
+    let mut met = Met::default();
+    let asked = Asked::new(&Host::new(&log_k()), question);
+    assert!(asked.check(&asked.defined, WORK).is_ok());
+    cut_and_extend(&asked, &mut met);
+    alter(&asked, &mut met, |good, _| (0..=255).filter(|value| *value != good).collect());
+    assert_eq!(met.total(), asked.defined.len() * 256 + 512);
+    met
+}
+
+#[test]
+fn every_byte_of_a_backward_answer() {
+    every_value(ask(1, 2, 35)).exactly(1, 1, &[12, 15, 16, 17, 18, 19, 20, 21, 22, 23, 24]);
+}
+
+#[test]
+fn every_byte_of_a_forward_answer() {
+    every_value(ask(2, 1, 39)).exactly(2, 1, &[12, 15, 16, 17, 18, 19, 20, 21, 23, 24]);
+}
+
+#[test]
+fn every_byte_of_answers_without_trace() {
+    for question in [ask(0, 2, 35), ask(1, 2, 19), ask(2, 3, 0)] {
+        every_value(question).exactly(question.direction.into(), 1, &[15, 16, 17, 18]);
+    }
+}
+
+/// A question of a known direction about a random log, with its answer.
+fn any_asked(random: &mut Random, most: usize) -> Asked {
+    let records = random::sound_records(random, most);
+    let question = Question { direction: random.below(3) as u8, ..random::question(random, &records) };
+    Asked::new(&Host::new(&records), question)
+}
+
+#[test]
+fn every_byte_of_random_answers() {
+    let mut random = Random::new(51);
+    let mut met = Met::default();
+    for round in 0..120 {
+        let asked = any_asked(&mut random, 9);
+        cut_and_extend(&asked, &mut met);
+        alter(&asked, &mut met, |good, place| vec![good ^ 1 << ((place + round) % 8), !good]);
+    }
+    met.exactly(0, 100, &[15, 16, 17, 18]);
+    met.exactly(1, 5, &[12, 15, 16, 17, 18, 19, 20, 21, 22, 23, 24]);
+    met.exactly(2, 5, &[12, 15, 16, 17, 18, 19, 20, 21, 23, 24]);
+    assert!(met.total() > 100_000, "{} answers", met.total());
+}
+
+/// Altered, cut, extended, or with a part taken out, put in, doubled or overwritten by another.
+#[test]
+fn parts_of_random_answers() {
+    let mut random = Random::new(52);
+    let mut met = Met::default();
+    for _ in 0..4_000 {
+        let asked = any_asked(&mut random, 12);
+        for _ in 0..10 {
+            let bytes = random::damaged_answer(&mut random, &asked.defined);
+            let checked = asked.check(&bytes, WORK);
+            assert!(checked.is_err());
+            met.add(&asked.question, &checked);
+        }
+    }
+    met.exactly(0, 100, &[15, 16, 17, 18]);
+    met.includes(1, 5, &[12, 15, 16, 17, 18, 19, 20, 21, 23, 24]);
+    met.includes(2, 5, &[12, 15, 16, 17, 18, 19, 20, 21, 23, 24]);
+}
+
+/// The letter of a record altered to another record's.
+fn edit_letter(random: &mut Random, records: &mut [Vec<u8>]) {
+    let at = random.index(records.len());
+    records[at][0] = b"ESTDV"[random.index(5)];
+}
+
+fn any_count(random: &mut Random, records: usize) -> u32 {
+    match random.below(40) {
+        0 => 0,
+        1 => 65_536,
+        2 => u32::MAX,
+        3 => 65_535,
+        4 => records as u32 + 1,
+        5 => records as u32 - 1,
+        _ => records as u32,
+    }
+}
+
+/// The answer with one or two changes of what its trace shows, and now and then of its letters, its count or its end.
+fn edited(random: &mut Random, traced: &Traced) -> Vec<u8> {
+    let mut versions = traced.versions.clone();
+    for _ in 0..1 + random.index(2) {
+        edit(random, &mut versions);
+    }
+    let direction = traced.asked.question.direction;
+    let mut records = records_of(direction, &versions);
+    if random.once_in(16) {
+        edit_letter(random, &mut records);
+    }
+    let count = any_count(random, records.len());
+    let extra: &[u8] = if random.once_in(16) { b"E" } else { b"" };
+    [&traced.proof, &trace_with_count(trace_letter(direction), count, &records)[..], extra].concat()
+}
+
+/// Answers with a trace, of which every record is whole, and positions and count follow the change.
+fn edited_traces(seed: u64, direction: u8, rows: &[usize]) {
+    let mut random = Random::new(seed);
+    let mut met = Met::default();
+    for _ in 0..3_000 {
+        let traced = any_traced(&mut random, direction, 12);
+        for _ in 0..20 {
+            let answer = edited(&mut random, &traced);
+            let checked = traced.asked.check(&answer, WORK);
+            assert_eq!(checked.is_ok(), answer == traced.asked.defined);
+            met.add(&traced.asked.question, &checked);
+        }
+    }
+    met.exactly(direction.into(), 100, rows);
+}
+
+#[test]
+fn edited_traces_backward() {
+    edited_traces(53, 1, &[0, 12, 15, 16, 18, 19, 20, 21, 22, 23, 24]);
+}
+
+#[test]
+fn edited_traces_forward() {
+    edited_traces(54, 2, &[0, 12, 15, 16, 18, 19, 20, 21, 23, 24]);
+}

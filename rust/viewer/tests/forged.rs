@@ -1,0 +1,192 @@
+//! The exported check under commitments that no log has, against the Rust version: nothing is promised of them but the rows and verdicts
+//! that the rules give.
+
+mod common;
+
+use common::*;
+use reference::edit::edit;
+use reference::forge::{e, fits, group, known, leaf, long_proof, node, proof, proof_of_found, proof_of_leaf, proof_of_trace};
+use reference::forge::{root, s, trace, trace_of, Fitting};
+use reference::graph::{Dependency, Name, Version};
+use reference::random::{self, Random};
+use reference::sha256::sha256;
+use reference::Question;
+use viewer::Verdict;
+
+const WORK: usize = 128 * 16;
+const MOST: usize = 65_535;
+
+fn check_fitting(question: Question, fitting: &Fitting, work: usize) -> Checked {
+    check(&question, &fitting.commitment, &fitting.answer, work)
+}
+
+#[test]
+fn own_keys_are_not_compared() {
+    // G's entity is 7 in every byte, L's name is 5 at 500; neither is what is asked
+    let l = leaf(5, 500, &[1; 32], &[2; 32]);
+    let fitting = proof_of_leaf(&ask(0, 1, 3), l);
+    assert_eq!(check_fitting(ask(0, 1, 4), &fitting, 0), found(500, 0));
+    assert_eq!(check_fitting(ask(0, 1, 2), &fitting, 0), refused(18, 122));
+    assert_eq!(check_fitting(ask(0, 2, 4), &fitting, 0), refused(18, 65));
+}
+
+#[test]
+fn keys_beyond_32_bits() {
+    let g = group(&known(3, 3, &leaf(5, 500, &[1; 32], &[2; 32])));
+    let high = (1 << 32) + 1;
+    let above = proof(&[root(&known(high, high, &g))]);
+    assert_eq!(check_fitting(ask(0, 1, 4), &above, 0), Ok(Verdict::NoEntity));
+    // the greatest entity lies below the greatest key
+    let p = node(b'P', &known(0, u64::MAX - 1, &g), &known(u64::MAX, u64::MAX, &g));
+    let around = proof(&[root(&known(0, u64::MAX, &p)), p]);
+    assert_eq!(check_fitting(ask(0, u32::MAX, 4), &around, 0), refused(15, 162));
+}
+
+#[test]
+fn least_above_greatest() {
+    // in an entity's tree this means N, and the left's least key may be above the time asked
+    let l = leaf(5, 500, &[1; 32], &[2; 32]);
+    let n = node(b'N', &known(8, 8, &l), &known(9, 9, &l));
+    let g = group(&known(3, 2, &n));
+    let mut fitting = proof(&[root(&known(1, 1, &g)), g.clone(), n]);
+    let end = fitting.answer.len();
+    assert_eq!(check_fitting(ask(0, 1, 4), &fitting, 0), Ok(Verdict::NotYet));
+    fitting.answer.extend(l);
+    assert_eq!(check_fitting(ask(0, 1, 8), &fitting, 0), found(500, 0));
+    assert_eq!(check_fitting(ask(0, 1, 4), &fitting, 0), refused(18, end));
+    // in the tree of entities no entity lies between them
+    let fitting = proof(&[root(&known(3, 2, &g))]);
+    for entity in 0..5 {
+        assert_eq!(check_fitting(ask(0, entity, 4), &fitting, 0), Ok(Verdict::NoEntity));
+    }
+}
+
+/// Thousands of strings to walk: accepted, and refused at the string that is altered or cut.
+#[test]
+fn long_walks() {
+    const DEPTH: usize = 3_000;
+    let strings = long_proof(DEPTH, leaf(1, 6, &sha256(&[0x49, 0]), &sha256(&[0x4f, 0, 0, 0, 0])));
+    assert_eq!(strings.len(), 2 * DEPTH + 3);
+    let fitting = proof(&strings);
+    assert_eq!(check_fitting(ask(0, 1, 7), &fitting, 0), found(6, 0));
+    for (direction, trace) in [(1, trace(b'B', &[e(1, 6)])), (2, trace(b'F', &[s(1, 6)]))] {
+        let traced = [&fitting.answer[..], &trace].concat();
+        assert_eq!(check(&ask(direction, 1, 7), &fitting.commitment, &traced, 128), found(6, 1));
+    }
+    for index in [1, 17, 32, 33, DEPTH, DEPTH + 1, DEPTH + 2, 2 * DEPTH, 2 * DEPTH + 2] {
+        let start = strings[..index].concat().len();
+        let mut bytes = fitting.answer.clone();
+        bytes[start + 9] ^= 1;
+        assert_eq!(check(&ask(0, 1, 7), &fitting.commitment, &bytes, 0), refused(17, start));
+        for length in [start, start + 1, start + 56] {
+            assert_eq!(check(&ask(0, 1, 7), &fitting.commitment, &bytes[..length], 0), refused(15, start));
+        }
+    }
+}
+
+/// Versions that each show both edges from the one before.
+fn both_from_the_one_before(count: usize) -> Vec<Version> {
+    let name = |own: usize| Name { entity: own as u32 % 3, time: own as u64 };
+    let edges = |own: usize| own.checked_sub(1).map(|source| Dependency { kind: own as u8, source });
+    (0..count).map(|own| Version { name: name(own), temporal: own.checked_sub(1), dependency: edges(own) }).collect()
+}
+
+/// A V with equal positions passes if the digest under the commitment is its own.
+#[test]
+fn both_edges_from_one_start() {
+    for (direction, count) in [(1, 2), (2, 2), (1, 9), (2, 9), (1, MOST), (2, MOST)] {
+        let versions = both_from_the_one_before(count);
+        let question = ask(direction, 1, 4);
+        let mut fitting = proof_of_trace(&question, &versions);
+        let time = if direction == 1 { count as u64 - 1 } else { 0 };
+        assert_eq!(check_fitting(question, &fitting, 128 * count), found(time, count as u64));
+        assert_eq!(check_fitting(question, &fitting, 128 * count - 1), refused(12, 0));
+        // the two edges have one end, but not one kind
+        let kind = fitting.answer.len() - 9;
+        fitting.answer[kind] ^= 1;
+        assert_eq!(check_fitting(question, &fitting, 128 * count).unwrap_err().number, 24);
+    }
+}
+
+/// One version with an edge to each of the others, up to the most, and two to each second one.
+#[test]
+fn one_start_of_the_most_edges() {
+    let star = |own: usize| Version {
+        name: Name { entity: 7, time: 10 + own as u64 },
+        temporal: (own > 0 && own % 2 == 0).then_some(0),
+        dependency: (own > 0).then_some(Dependency { kind: 1, source: 0 }),
+    };
+    let versions: Vec<Version> = (0..MOST).map(star).collect();
+    let question = ask(2, 1, 4);
+    assert_eq!(check_fitting(question, &proof_of_trace(&question, &versions), 128 * MOST), found(10, MOST as u64));
+}
+
+/// What the trace of a random log's answer shows after some changes, under a commitment to the name and digest that it shows, or once in
+/// four to those of another change.
+fn edited_traces(seed: u64, direction: u8, rows: &[usize]) {
+    let mut random = Random::new(seed);
+    let mut met = Met::default();
+    while met.total() < 60_000 {
+        let Traced { asked, mut versions, .. } = any_traced(&mut random, direction, 10);
+        (0..random.index(4)).for_each(|_| edit(&mut random, &mut versions));
+        let mut committed = versions.clone();
+        if random.once_in(4) {
+            edit(&mut random, &mut committed);
+        }
+        if fits(&committed) {
+            let mut fitting = proof_of_found(&asked.question, &committed);
+            fitting.answer.extend(trace_of(direction, &versions));
+            met.add(&asked.question, &check_fitting(asked.question, &fitting, WORK));
+        }
+    }
+    met.exactly(direction.into(), 20, rows);
+    met.includes(direction.into(), 1_000, &[0, 16, 21, 24]);
+}
+
+#[test]
+fn edited_traces_backward() {
+    edited_traces(61, 1, &[0, 16, 20, 21, 22, 23, 24]);
+}
+
+#[test]
+fn edited_traces_forward() {
+    edited_traces(62, 2, &[0, 16, 20, 21, 23, 24]);
+}
+
+/// Trees with arbitrary keys, and traces with arbitrary edges; then the same damaged.
+fn generated(seed: u64) {
+    let mut random = Random::new(seed);
+    let (mut whole, mut damaged) = (Met::default(), Met::default());
+    let mut verdicts = [0; 3];
+    for _ in 0..40_000 {
+        let forged = random::forged(&mut random);
+        let checked = check(&forged.question, &forged.commitment, &forged.answer, 128 * 6);
+        whole.add(&forged.question, &checked);
+        match checked {
+            Ok(Verdict::NoEntity) => verdicts[0] += 1,
+            Ok(Verdict::NotYet) => verdicts[1] += 1,
+            Ok(Verdict::Found { .. }) => verdicts[2] += 1,
+            Err(_) => {}
+        }
+        let bytes = random::damaged_answer(&mut random, &forged.answer);
+        damaged.add(&forged.question, &check(&forged.question, &forged.commitment, &bytes, 128 * 6));
+    }
+    // the proof strings always fit, and the trace decides
+    whole.exactly(0, 1_000, &[0]);
+    whole.exactly(1, 10, &[0, 19, 20, 21, 22, 23, 24]);
+    whole.exactly(2, 10, &[0, 19, 20, 21, 23, 24]);
+    damaged.exactly(0, 10, &[15, 16, 17, 18]);
+    damaged.includes(1, 10, &[12, 15, 16, 17, 18, 19, 20, 21, 22, 23, 24]);
+    damaged.includes(2, 10, &[12, 15, 16, 17, 18, 19, 20, 21, 23, 24]);
+    assert!(verdicts.iter().all(|times| *times > 1_000), "{verdicts:?}");
+}
+
+#[test]
+fn generated_trees() {
+    generated(63);
+}
+
+#[test]
+fn more_generated_trees() {
+    generated(64);
+}
