@@ -233,7 +233,7 @@ pub fn work_area(records: usize) -> Vec<u8> {
 }
 
 /// A work area for the check of an answer: for as many records as an answer of its length has room for, and no more than a trace may have.
-/// An answer that claims more of them than it has room for meets row 12.
+/// A trace that claims more records than that is refused in any case, by row 12 or an earlier one.
 pub fn work_for(answer: &[u8]) -> Vec<u8> {
     const LEAST_RECORD: usize = 13;
     const MOST_RECORDS: usize = 65_535;
