@@ -8,8 +8,8 @@ use crate::commands::Command;
 use crate::failure::Failure;
 use crate::files;
 
-/// The options that are followed by a file's name; the others stand alone.
-const WITH_FILE: [&str; 2] = ["-o", "--svg"];
+/// The options that are followed by a word; the others stand alone.
+const WITH_WORD: [&str; 5] = ["-o", "--svg", "--seed", "--limit", "--keep"];
 
 /// The words after a command's name: those without a dash in order, and the options with what follows them.
 #[derive(Debug, PartialEq, Eq)]
@@ -31,6 +31,11 @@ impl Words {
     /// Where the result goes: `-o FILE`, else standard output.
     pub fn output(&self) -> &str {
         self.option("-o").unwrap_or("-")
+    }
+
+    /// The number that follows an option, or what it is without the option.
+    pub fn number(&self, name: &str, without: u64) -> Result<u64, Failure> {
+        self.option(name).map_or(Ok(without), |word| number(name, word))
     }
 
     /// The question in three words from a place on: direction, entity, time.
@@ -67,9 +72,9 @@ pub fn read(command: &Command, given: &[String]) -> Result<Option<Words>, Failur
             words.plain.push(word.clone());
         } else if !command.options.contains(&word.as_str()) {
             return Err(wrong(format!("{} has no option '{word}'", command.name)));
-        } else if WITH_FILE.contains(&word.as_str()) {
-            let file = rest.next().ok_or_else(|| wrong(format!("a file's name has to follow '{word}'")))?;
-            words.options.push((word.clone(), file.clone()));
+        } else if WITH_WORD.contains(&word.as_str()) {
+            let value = rest.next().ok_or_else(|| wrong(format!("a word has to follow '{word}'")))?;
+            words.options.push((word.clone(), value.clone()));
         } else {
             words.options.push((word.clone(), String::new()));
         }
@@ -165,7 +170,7 @@ mod tests {
             (&["a", "b"][..], "commit takes 1 words, 2 were given"),
             (&[], "commit takes 1 words, 0 were given"),
             (&["--svg", "f", "a"], "commit has no option '--svg'"),
-            (&["a", "-o"], "a file's name has to follow '-o'"),
+            (&["a", "-o"], "a word has to follow '-o'"),
         ] {
             match words("commit", given) {
                 Err(Failure::Use(text)) => assert!(text.starts_with(said), "{text}"),

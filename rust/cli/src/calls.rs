@@ -5,9 +5,15 @@ use viewer::{Question, Refusal, Verdict};
 /// A log and a trace have at most this many records.
 const MOST_RECORDS: usize = 65_535;
 
-/// An answer has at most this many bytes, and so many for each record of the log.
+/// A proof and its trace's header have at most this many bytes. A record of the trace has 22 at most, and its record of the log 13 at least.
 const MOST_PROOF: usize = 3_211;
 const MOST_RECORD: usize = 22;
+const LEAST_LOGGED: usize = 13;
+
+/// No answer about a log of that many bytes is longer.
+pub fn most_answer(log: usize) -> usize {
+    MOST_PROOF + MOST_RECORD * (log / LEAST_LOGGED)
+}
 
 /// The listing program's text has at most so many bytes.
 const MOST_LISTING: usize = 65_536;
@@ -29,7 +35,7 @@ pub fn commitment(log: &[u8]) -> Result<[u8; 32], Refusal> {
 
 pub fn answer(question: &Question, log: &[u8]) -> Result<Vec<u8>, Refusal> {
     let records = viewer::log(log)? as usize;
-    let mut out = vec![0; MOST_PROOF + MOST_RECORD * records];
+    let mut out = vec![0; most_answer(log.len())];
     let length = viewer::answer(question, log, &mut viewer::work_area(records), &mut out)?;
     out.truncate(length as usize);
     Ok(out)

@@ -8,6 +8,7 @@ use crate::demo;
 use crate::failure::{Done, Failure};
 use crate::files;
 use crate::history::{self, History};
+use crate::mark;
 use crate::rows;
 use crate::svg;
 use crate::textlog;
@@ -100,6 +101,19 @@ A line a version, by rising time, with the edges that lead to it. In the picture
 With '--svg -' the picture alone is written.
 ",
         run: show,
+    },
+    Command {
+        name: "mark",
+        words: "HOST",
+        options: &["--seed", "--limit", "--keep"],
+        shown: "[--seed NUMBER] [--limit SECONDS] [--keep FILE]",
+        about: "runs a participant's program on made logs, and counts the answers that the check accepts",
+        details: "\
+HOST is run once for each question, with the direction (0, 1 or 2), the entity and the time as its words and the log on standard input;
+it writes the answer to standard output and ends with status 0, within 10 seconds or the limit given. The seed settles the logs and
+the questions; --keep writes the log of the first answer that was not accepted. The status is 0 if all are accepted.
+",
+        run: mark::run,
     },
 ];
 

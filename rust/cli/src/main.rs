@@ -9,7 +9,10 @@ mod failure;
 mod files;
 mod help;
 mod history;
+mod host;
+mod mark;
 mod rows;
+mod sample;
 mod svg;
 mod textlog;
 
