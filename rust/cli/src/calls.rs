@@ -5,7 +5,7 @@ use viewer::{Question, Refusal, Verdict};
 /// A log and a trace have at most this many records.
 const MOST_RECORDS: usize = 65_535;
 
-/// A proof and its trace's header have at most this many bytes. A record of the trace has 22 at most, and its record of the log 13 at least.
+/// A proof and its trace's header have at most this many bytes. A record of the trace has at most 22, its record in the log at least 13.
 const MOST_PROOF: usize = 3_211;
 const MOST_RECORD: usize = 22;
 const LEAST_LOGGED: usize = 13;
