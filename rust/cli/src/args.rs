@@ -111,7 +111,7 @@ pub fn commitment(word: &str) -> Result<[u8; 32], Failure> {
     let bytes = files::read(word)?;
     let text = std::str::from_utf8(&bytes).ok().and_then(|text| from_hex(text.trim()));
     text.or_else(|| bytes.as_slice().try_into().ok()).ok_or_else(|| {
-        let name = files::called(word, "standard input");
+        let name = files::input_name(word);
         Failure::Use(format!("{name}: a commitment is 64 hex digits or 32 bytes, and this is neither ({} bytes)", bytes.len()))
     })
 }

@@ -60,7 +60,7 @@ and empty lines are passed over. A log that is not sound is written all the same
         options: &[],
         shown: "",
         about: "what the listing program prints: a line a version, for a log of at most 512 records and 9,216 bytes",
-        details: "",
+        details: "The records of a longer log are shown by 'log --text'.\n",
         run: list,
     },
     Command {
@@ -120,7 +120,7 @@ the questions; --keep writes the log of the first answer that was not accepted. 
 fn log(words: &Words) -> Done {
     let name = words.plain(0);
     let given = files::read(name)?;
-    let called = files::called(name, "standard input");
+    let called = files::input_name(name);
     let (log, result) = if words.option("--text").is_some() {
         let text = textlog::to_text(&given).map_err(|refusal| refused_log(name, &refusal))?;
         (given, text.into_bytes())
@@ -141,7 +141,7 @@ fn list(words: &Words) -> Done {
     let listing = calls::listing(&log).map_err(refused)?;
     files::write("-", &listing)?;
     if listing == b"too long\n" {
-        return Err(Failure::Log(format!("{}: above 512 records or 9,216 bytes", files::called(name, "standard input"))));
+        return Err(Failure::Log(format!("{}: above 512 records or 9,216 bytes", files::input_name(name))));
     }
     viewer::log(&log).map(|_| ()).map_err(refused)
 }
@@ -164,7 +164,7 @@ fn answer(words: &Words) -> Done {
 
 /// A log that a call refused.
 fn refused_log(name: &str, refusal: &Refusal) -> Failure {
-    Failure::Log(format!("{}: {}", files::called(name, "standard input"), rows::said(refusal)))
+    Failure::Log(format!("{}: {}", files::input_name(name), rows::said(refusal)))
 }
 
 /// What `check` and `show` have in common: the question, and the answer's bytes checked against the commitment.
@@ -186,7 +186,7 @@ fn check(words: &Words) -> Done {
 
 fn show(words: &Words) -> Done {
     with_checked(words, |question, checked| {
-        let history = History::new(question.direction, checked.records).expect("checked records are records");
+        let history = History::of(question, checked);
         let verdict = history::verdict(question, &checked.verdict);
         let picture = words.option("--svg");
         if let Some(file) = picture {

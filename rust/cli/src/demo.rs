@@ -44,9 +44,8 @@ fn part(heading: &str, body: &str) -> String {
 fn asked(question: &Question, log: &[u8], commitment: &[u8; 32]) -> Result<String, Refusal> {
     let answer = calls::answer(question, log)?;
     let checked = calls::checked(question, commitment, &answer)?;
-    let history = History::new(question.direction, checked.records).expect("checked records are records");
     let heading = format!("Asked: {}. The host answers with {} bytes, and the check accepts", history::asked(question), answer.len());
-    Ok(part(&heading, &format!("{}\n{}", history::verdict(question, &checked.verdict), history.text())))
+    Ok(part(&heading, &format!("{}\n{}", history::verdict(question, &checked.verdict), History::of(question, &checked).text())))
 }
 
 /// The answer with its last flow's kind altered, and the row that refuses it.

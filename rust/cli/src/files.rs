@@ -7,18 +7,18 @@ use crate::failure::{Done, Failure};
 
 pub fn read(name: &str) -> Result<Vec<u8>, Failure> {
     let bytes = if name == "-" { read_input() } else { fs::read(name) };
-    bytes.map_err(|reason| Failure::Use(format!("{}: {reason}", called(name, "standard input"))))
+    bytes.map_err(|reason| Failure::Use(format!("{}: {reason}", input_name(name))))
 }
 
 pub fn write(name: &str, bytes: &[u8]) -> Done {
     let written = if name == "-" { write_output(bytes) } else { fs::write(name, bytes) };
-    written.map_err(|reason| Failure::Use(format!("{}: {reason}", called(name, "standard output"))))
+    written.map_err(|reason| Failure::Use(format!("{}: {reason}", if name == "-" { "standard output" } else { name })))
 }
 
-/// The name as it is said to the user.
-pub fn called<'a>(name: &'a str, dash: &'a str) -> &'a str {
+/// A file that is read, as it is called in what is said of it.
+pub fn input_name(name: &str) -> &str {
     if name == "-" {
-        dash
+        "standard input"
     } else {
         name
     }

@@ -1,7 +1,5 @@
 //! What `--help` says.
 
-use std::fmt::Write;
-
 use crate::commands::{Command, ALL};
 
 const WORDS: &str = "\
@@ -19,7 +17,7 @@ Exit status: 0 success; 1 an answer or a log was refused; 2 wrong words, or a fi
 pub fn all() -> String {
     let mut text = "Verifiable causality answers over an event log, by the proved library.\n\n".to_string();
     for command in ALL {
-        writeln!(text, "  {}\n      {}", command.usage(), command.about).expect("a string takes all that is written");
+        text += &format!("  {}\n      {}\n", command.usage(), command.about);
     }
     text + "\n" + WORDS
 }

@@ -1,8 +1,8 @@
 //! The checked records of a trace as versions and edges, and their text.
 
-use std::fmt::Write;
-
 use viewer::{Direction, Question, Verdict};
+
+use crate::calls::Checked;
 
 /// An edge to a version: where it starts (a position in the trace), and its kind if it is a dependency edge.
 #[derive(Clone, Copy, Debug, PartialEq, Eq)]
@@ -34,8 +34,13 @@ pub struct History {
 }
 
 impl History {
-    /// None if the bytes are no run of records, which checked records always are.
-    pub fn new(direction: Direction, records: &[u8]) -> Option<History> {
+    /// The history that an accepted answer shows.
+    pub fn of(question: &Question, checked: &Checked) -> History {
+        History::decoded(question.direction, checked.records).expect("checked records are records")
+    }
+
+    /// None if the bytes are no run of records, which checked ones always are.
+    pub fn decoded(direction: Direction, records: &[u8]) -> Option<History> {
         let mut bytes = records;
         let mut versions = Vec::new();
         while !bytes.is_empty() {
@@ -54,7 +59,7 @@ impl History {
         let mut text = String::new();
         for (position, version) in self.versions.iter().enumerate() {
             let mark = if position == self.found { ", found" } else { "" };
-            writeln!(text, "{position}: {}{}{mark}", version.name(), self.origin(version)).expect("a string takes all that is written");
+            text += &format!("{position}: {}{}{mark}\n", version.name(), self.origin(version));
         }
         text
     }
@@ -129,7 +134,7 @@ mod tests {
     use reference::forge::{d, e, s, t, v};
 
     fn history(direction: Direction, records: &[Vec<u8>]) -> Option<History> {
-        History::new(direction, &records.concat())
+        History::decoded(direction, &records.concat())
     }
 
     #[test]
@@ -165,7 +170,7 @@ mod tests {
     fn bytes_that_are_no_records_show_nothing() {
         let whole = [e(1, 10), v(1, 20, 7, 0, 0)].concat();
         for length in (1..whole.len()).filter(|length| *length != 13) {
-            assert_eq!(History::new(Direction::Backward, &whole[..length]), None, "{length}");
+            assert_eq!(History::decoded(Direction::Backward, &whole[..length]), None, "{length}");
         }
         assert_eq!(history(Direction::Forward, &[t(1, 10, 0)]), None);
         assert_eq!(history(Direction::Forward, &[s(1, 10), d(2, 20, 7, 2)]), None);

@@ -6,7 +6,7 @@ use std::sync::mpsc;
 use std::thread;
 use std::time::{Duration, Instant};
 
-use viewer::{Direction, Question};
+use viewer::Question;
 
 use crate::calls;
 use crate::failure::Failure;
@@ -20,14 +20,8 @@ pub struct Host<'a> {
 impl Host<'_> {
     /// The answer's bytes, or why there are none. That the program cannot be started is an error of use.
     pub fn ask(&self, question: &Question, log: &[u8]) -> Result<Result<Vec<u8>, String>, Failure> {
-        let direction = match question.direction {
-            Direction::VersionOnly => 0,
-            Direction::Backward => 1,
-            Direction::Forward => 2,
-            Direction::Raw(number) => number,
-        };
         let mut child = Command::new(self.program)
-            .args([direction.to_string(), question.entity.to_string(), question.time.to_string()])
+            .args([question.direction.number().to_string(), question.entity.to_string(), question.time.to_string()])
             .stdin(Stdio::piped())
             .stdout(Stdio::piped())
             .spawn()

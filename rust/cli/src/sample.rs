@@ -1,7 +1,5 @@
 //! Sound logs and questions about them, the same for the same seed.
 
-use std::fmt::Write;
-
 use viewer::{Direction, Question};
 
 /// A generator of numbers (SplitMix64).
@@ -39,16 +37,15 @@ pub fn log(random: &mut Random, records: usize) -> Sample {
     for _ in 0..records {
         time += 1 + random.below(3) + random.below(2) * random.below(1000);
         sample.times.push(time);
-        let written = if sample.entities.len() < 2 || random.below(5) == 0 {
+        sample.text += &if sample.entities.len() < 2 || random.below(5) == 0 {
             entity += 1 + random.below(3) as u32;
             sample.entities.push(entity);
-            writeln!(sample.text, "birth {entity} {time}")
+            format!("birth {entity} {time}\n")
         } else {
             let source = random.pick(&sample.entities);
             let others: Vec<u32> = sample.entities.iter().copied().filter(|other| *other != source).collect();
-            writeln!(sample.text, "flow {source} {} {} {time}", random.pick(&others), random.below(256))
+            format!("flow {source} {} {} {time}\n", random.pick(&others), random.below(256))
         };
-        written.expect("a string takes all that is written");
     }
     sample
 }

@@ -4,7 +4,6 @@
 //! number of records. The width of every text is fixed in the picture, so this does not hang on the reader's fonts.
 
 use std::collections::BTreeMap;
-use std::fmt::Write;
 
 use crate::history::{Edge, History, Version};
 
@@ -40,7 +39,8 @@ struct Picture {
 
 impl Picture {
     fn put(&mut self, element: &str) {
-        writeln!(self.body, "{element}").expect("a string takes all that is written");
+        self.body += element;
+        self.body += "\n";
     }
 
     /// A text that starts at a place of its base line.
@@ -147,12 +147,12 @@ fn node(picture: &mut Picture, layout: &Layout, history: &History, position: usi
     let (x, y) = (layout.lane(version), layout.row(position));
     let mut text = version.name();
     for kind in version.edges.iter().filter_map(|edge| edge.kind) {
-        write!(text, ", kind {kind}").expect("a string takes all that is written");
+        text += &format!(", kind {kind}");
     }
     let found = position == history.found;
     if found {
         picture.put(&format!("<circle class='ring' cx='{x}' cy='{y}' r='{}'/>", RADIUS + 3));
-        text.push_str(", found");
+        text += ", found";
     }
     let class = if found { "found" } else { "version" };
     picture.put(&format!("<circle class='{class}' cx='{x}' cy='{y}' r='{RADIUS}'/>"));
@@ -172,7 +172,7 @@ mod tests {
     #[test]
     fn every_version_and_edge_is_drawn_once() {
         let records = [e(1, 10), e(2, 20), v(2, 30, 7, 1, 0)].concat();
-        let drawn = picture("a title", &History::new(Direction::Backward, &records).unwrap());
+        let drawn = picture("a title", &History::decoded(Direction::Backward, &records).unwrap());
         assert_eq!(count(&drawn, "<circle class='version'"), 2);
         assert_eq!(count(&drawn, "<circle class='found'"), 1);
         assert_eq!(count(&drawn, "<circle class='ring'"), 1);
@@ -187,13 +187,13 @@ mod tests {
     fn edges_between_any_lanes_are_drawn() {
         // no log has these edges; a commitment made for them has
         let records = [e(9, 10), e(2, 20), v(9, 30, 7, 0, 0), v(2, 40, 7, 2, 1)].concat();
-        let drawn = picture("", &History::new(Direction::Backward, &records).unwrap());
+        let drawn = picture("", &History::decoded(Direction::Backward, &records).unwrap());
         assert_eq!(count(&drawn, "<path class='temporal'") + count(&drawn, "<path class='dependency'"), 4);
     }
 
     #[test]
     fn without_records_the_title_stands_alone() {
-        let drawn = picture("not yet", &History::new(Direction::Backward, &[]).unwrap());
+        let drawn = picture("not yet", &History::decoded(Direction::Backward, &[]).unwrap());
         assert_eq!((count(&drawn, "<text"), count(&drawn, "<circle")), (1, 0));
     }
 }

@@ -1,7 +1,6 @@
 //! The text form of a log: a record a line, `birth ENTITY TIME` or `flow SOURCE DESTINATION KIND TIME`. What follows `#`, and empty
 //! lines, say nothing. Every run of whole records has a text form, sound or not.
 
-use std::fmt::Write;
 use std::str::{FromStr, SplitWhitespace};
 
 use viewer::Refusal;
@@ -72,11 +71,10 @@ pub fn to_text(log: &[u8]) -> Result<String, Refusal> {
 fn line(record: &[u8], text: &mut String) {
     let entity = |place: usize| u32::from_be_bytes(std::array::from_fn(|byte| record[place + byte]));
     let time = u64::from_be_bytes(std::array::from_fn(|byte| record[record.len() - 8 + byte]));
-    let written = match record[0] {
-        BIRTH => writeln!(text, "birth {} {time}", entity(1)),
-        _ => writeln!(text, "flow {} {} {} {time}", entity(1), entity(5), record[9]),
+    *text += &match record[0] {
+        BIRTH => format!("birth {} {time}\n", entity(1)),
+        _ => format!("flow {} {} {} {time}\n", entity(1), entity(5), record[9]),
     };
-    written.expect("a string takes all that is written");
 }
 
 #[cfg(test)]

@@ -33,7 +33,7 @@ echo \"$@\" >>rt.calls
 [ ! -e rt.fails ] || { echo 'rt: fields NOT PROVED (exit 1, 2 s)' >&2; exit 1; }
 echo 'rt: fields proved (1 s)' >&2
 echo logic=proved
-mkdir -p target/staticlib && echo library >target/staticlib/libbozhtagul.a
+[ -e rt.idle ] || { mkdir -p target/staticlib && echo library >target/staticlib/libbozhtagul.a; }
 echo 'rt: target/staticlib/libbozhtagul.a has the functions'
 ";
 
@@ -124,6 +124,15 @@ fn a_newer_crate_builds_the_library_and_the_program_again() {
         assert!(said.contains("bozhtagul: building the program\n"), "{said}");
         assert_eq!(tree.said(), "");
     }
+}
+
+#[test]
+fn a_library_that_rt_leaves_as_it_is_counts_as_built() {
+    let tree = built("idle");
+    tree.set_age("crates.txt", 10);
+    tree.put("rt.idle", "");
+    assert!(tree.said().contains("crates.txt is newer than the library"));
+    assert_eq!(tree.said(), "");
 }
 
 #[test]
