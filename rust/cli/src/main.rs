@@ -33,7 +33,7 @@ fn run(words: &[String]) -> failure::Done {
         Some(found) => found,
     };
     let command = commands::ALL.iter().find(|command| command.name == name);
-    let command = command.ok_or_else(|| failure::Failure::Use(format!("there is no command '{name}'\n\n{}", help::all())))?;
+    let command = command.ok_or_else(|| failure::Failure::Use(format!("there is no command '{name}': see bozhtagul --help")))?;
     match args::read(command, rest)? {
         None => files::write("-", help::of(command).as_bytes()),
         Some(words) => (command.run)(&words),

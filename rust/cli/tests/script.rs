@@ -76,8 +76,12 @@ impl Tree {
     }
 
     fn run(&self) -> Ran {
+        self.run_as("bozhtagul")
+    }
+
+    fn run_as(&self, name: &str) -> Ran {
         let path = format!("{}:{}", self.0.path("tools"), std::env::var("PATH").unwrap());
-        let mut script = Command::new(self.0.path("bozhtagul"));
+        let mut script = Command::new(self.0.path(name));
         run_with(script.args(["check", "a b"]).env("PATH", path).current_dir(self.0.path("")), b"the input\n")
     }
 
@@ -150,6 +154,14 @@ fn a_crate_that_the_library_does_not_stand_on_builds_nothing() {
     let tree = built("other crate");
     tree.set_age("crates/other/src/lib.rt", 10);
     assert_eq!(tree.said(), "");
+}
+
+#[test]
+fn a_link_to_the_script_finds_the_tree() {
+    let tree = built("link");
+    std::os::unix::fs::symlink("../bozhtagul", tree.0.path("tools/link")).unwrap();
+    let ran = tree.run_as("tools/link");
+    assert_eq!((ran.status, ran.text(), ran.err.as_str()), (1, "check a b\nthe input\n", ""));
 }
 
 #[test]
