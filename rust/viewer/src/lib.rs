@@ -99,7 +99,8 @@ pub enum Direction {
 }
 
 impl Direction {
-    fn number(self) -> u8 {
+    /// The direction as a question's first number.
+    pub fn number(self) -> u8 {
         match self {
             Direction::VersionOnly => 0,
             Direction::Backward => 1,

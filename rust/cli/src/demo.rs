@@ -1,0 +1,65 @@
+//! A small log from beginning to end.
+
+use viewer::{Direction, Question, Refusal};
+
+use crate::args::{to_hex, Words};
+use crate::calls;
+use crate::failure::{Done, Failure};
+use crate::files;
+use crate::history::{self, History};
+use crate::rows;
+use crate::textlog;
+
+/// Document 01's Log K.
+const LOG_K: &str = "birth 1 10\nbirth 2 20\nflow 1 2 7 30\nflow 2 1 8 40\n";
+
+const QUESTIONS: [Question; 2] =
+    [Question { direction: Direction::Backward, entity: 2, time: 35 }, Question { direction: Direction::Forward, entity: 1, time: 39 }];
+
+pub fn run(_: &Words) -> Done {
+    let log = textlog::to_bytes(LOG_K.as_bytes()).map_err(Failure::Use)?;
+    let text = told(&log).map_err(|refusal| Failure::Log(rows::said(&refusal)))?;
+    files::write("-", text.as_bytes())
+}
+
+/// The whole story of a log.
+fn told(log: &[u8]) -> Result<String, Refusal> {
+    let commitment = calls::commitment(log)?;
+    let mut text = part("A log of who fed whom, as text: entities are born, and flow into each other", LOG_K);
+    text += &part("Its versions, by the listing program", &String::from_utf8_lossy(&calls::listing(log)?));
+    text += &part("The recorder keeps 32 bytes of it, the commitment", &format!("{}\n", to_hex(&commitment)));
+    for question in &QUESTIONS {
+        text += &asked(question, log, &commitment)?;
+    }
+    Ok(text + &altered(&QUESTIONS[0], log, &commitment)?)
+}
+
+/// A heading, and what stands below it.
+fn part(heading: &str, body: &str) -> String {
+    let body: String = body.lines().map(|line| format!("    {line}\n")).collect();
+    format!("{heading}:\n{body}\n")
+}
+
+/// A question, the host's answer, and what the check makes of it.
+fn asked(question: &Question, log: &[u8], commitment: &[u8; 32]) -> Result<String, Refusal> {
+    let answer = calls::answer(question, log)?;
+    let checked = calls::checked(question, commitment, &answer)?;
+    let heading = format!("Asked: {}. The host answers with {} bytes, and the check accepts", history::asked(question), answer.len());
+    Ok(part(&heading, &format!("{}\n{}", history::verdict(question, &checked.verdict), History::of(question, &checked).text())))
+}
+
+/// The answer with its last flow's kind altered, and the row that refuses it.
+fn altered(question: &Question, log: &[u8], commitment: &[u8; 32]) -> Result<String, Refusal> {
+    /// From the answer's end: the kind, and the positions of the two versions.
+    const KIND_FROM_END: usize = 9;
+    let mut answer = calls::answer(question, log)?;
+    let place = answer.len() - KIND_FROM_END;
+    let before = answer[place];
+    answer[place] ^= 1;
+    let said = match calls::checked(question, commitment, &answer) {
+        Ok(checked) => history::verdict(question, &checked.verdict),
+        Err(refusal) => rows::said(&refusal),
+    };
+    let heading = format!("The same answer to '{}' with byte {place} changed from {before} to {}", history::asked(question), answer[place]);
+    Ok(part(&heading, &said))
+}

@@ -1,0 +1,41 @@
+//! The command line over the proved library.
+#![forbid(unsafe_code)]
+
+mod args;
+mod calls;
+mod commands;
+mod demo;
+mod failure;
+mod files;
+mod help;
+mod history;
+mod host;
+mod mark;
+mod rows;
+mod sample;
+mod svg;
+mod textlog;
+
+use std::process::ExitCode;
+
+fn main() -> ExitCode {
+    match args::given().and_then(|words| run(&words)) {
+        Ok(()) => ExitCode::SUCCESS,
+        Err(failure) => failure.say(),
+    }
+}
+
+/// Finds the command by its name and runs it.
+fn run(words: &[String]) -> failure::Done {
+    let (name, rest) = match words.split_first() {
+        None => return Err(failure::Failure::Use(help::all())),
+        Some((name, _)) if args::asks_help(name) || name == "help" => return files::write("-", help::all().as_bytes()),
+        Some(found) => found,
+    };
+    let command = commands::ALL.iter().find(|command| command.name == name);
+    let command = command.ok_or_else(|| failure::Failure::Use(format!("there is no command '{name}': see bozhtagul --help")))?;
+    match args::read(command, rest)? {
+        None => files::write("-", help::of(command).as_bytes()),
+        Some(words) => (command.run)(&words),
+    }
+}

@@ -1,0 +1,97 @@
+//! Sound logs and questions about them, the same for the same seed.
+
+use viewer::{Direction, Question};
+
+/// A generator of numbers (SplitMix64).
+pub struct Random(pub u64);
+
+impl Random {
+    fn number(&mut self) -> u64 {
+        self.0 = self.0.wrapping_add(0x9e37_79b9_7f4a_7c15);
+        let mut z = self.0;
+        z = (z ^ (z >> 30)).wrapping_mul(0xbf58_476d_1ce4_e5b9);
+        z = (z ^ (z >> 27)).wrapping_mul(0x94d0_49bb_1331_11eb);
+        z ^ (z >> 31)
+    }
+
+    fn below(&mut self, limit: u64) -> u64 {
+        self.number() % limit
+    }
+
+    fn pick<T: Copy>(&mut self, list: &[T]) -> T {
+        list[self.below(list.len() as u64) as usize]
+    }
+}
+
+/// A sound log in its text form, with what questions about it are made from.
+pub struct Sample {
+    pub text: String,
+    entities: Vec<u32>,
+    times: Vec<u64>,
+}
+
+/// A log of that many records: two births, then a birth once in five, else a flow between two entities.
+pub fn log(random: &mut Random, records: usize) -> Sample {
+    let mut sample = Sample { text: String::new(), entities: Vec::new(), times: Vec::new() };
+    let (mut entity, mut time) = (0, 0);
+    for _ in 0..records {
+        time += 1 + random.below(3) + random.below(2) * random.below(1000);
+        sample.times.push(time);
+        sample.text += &if sample.entities.len() < 2 || random.below(5) == 0 {
+            entity += 1 + random.below(3) as u32;
+            sample.entities.push(entity);
+            format!("birth {entity} {time}\n")
+        } else {
+            let source = random.pick(&sample.entities);
+            let others: Vec<u32> = sample.entities.iter().copied().filter(|other| *other != source).collect();
+            format!("flow {source} {} {} {time}\n", random.pick(&others), random.below(256))
+        };
+    }
+    sample
+}
+
+/// A question: of an entity of the log, or once in eight of one near it; at a record's time, or just beside one.
+pub fn question(random: &mut Random, sample: &Sample, direction: Direction) -> Question {
+    let entity = random.pick(&sample.entities) + u32::from(random.below(8) == 0);
+    let time = random.pick(&sample.times) + random.below(3) - 1;
+    Question { direction, entity, time }
+}
+
+#[cfg(test)]
+mod tests {
+    use super::*;
+    use crate::textlog;
+
+    #[test]
+    fn logs_are_sound_and_have_the_records_asked_for() {
+        for (seed, records) in [(1, 1), (2, 2), (3, 3), (4, 50), (5, 1000)] {
+            let log = textlog::to_bytes(log(&mut Random(seed), records).text.as_bytes()).unwrap();
+            assert_eq!(viewer::log(&log), Ok(records as u64));
+        }
+    }
+
+    #[test]
+    fn a_seed_gives_one_log() {
+        assert_eq!(log(&mut Random(7), 20).text, log(&mut Random(7), 20).text);
+        assert_ne!(log(&mut Random(7), 20).text, log(&mut Random(8), 20).text);
+    }
+
+    #[test]
+    fn every_verdict_is_asked_for() {
+        let mut random = Random(1);
+        let sample = log(&mut random, 30);
+        let log = textlog::to_bytes(sample.text.as_bytes()).unwrap();
+        let commitment = crate::calls::commitment(&log).unwrap();
+        let mut met = [0; 3];
+        for _ in 0..300 {
+            let question = question(&mut random, &sample, Direction::Backward);
+            let answer = crate::calls::answer(&question, &log).unwrap();
+            met[match crate::calls::checked(&question, &commitment, &answer).unwrap().verdict {
+                viewer::Verdict::NoEntity => 0,
+                viewer::Verdict::NotYet => 1,
+                viewer::Verdict::Found { .. } => 2,
+            }] += 1;
+        }
+        assert!(met.iter().all(|times| *times > 10), "{met:?}");
+    }
+}

@@ -1,0 +1,74 @@
+//! Every byte and digest that the practical's handout prints is the Rust version's.
+
+mod common;
+
+use common::*;
+use reference::graph::{incoming_digests, outgoing_digests, Graph};
+use reference::sample::log_k;
+use reference::sha256::sha256;
+
+const HANDOUT: &str = include_str!("../../../practical/HANDOUT.md");
+
+/// The lines of the block with that name.
+fn block(name: &str) -> Vec<&'static str> {
+    let lines = HANDOUT.lines().skip_while(|line| *line != format!("```{name}")).skip(1);
+    let lines: Vec<&str> = lines.take_while(|line| *line != "```").collect();
+    assert!(!lines.is_empty(), "there is no block {name}");
+    lines
+}
+
+fn bytes(hex: &str) -> Vec<u8> {
+    (0..hex.len()).step_by(2).map(|place| u8::from_str_radix(&hex[place..place + 2], 16).expect("hex")).collect()
+}
+
+/// The bytes of a table, whose lines begin with their place.
+fn table(name: &str) -> Vec<u8> {
+    let mut all = Vec::new();
+    for line in block(name) {
+        let words: Vec<&str> = line.split_whitespace().collect();
+        assert_eq!(words[0], all.len().to_string(), "{line}");
+        assert!(words.len() > 2, "{line} says nothing");
+        all.extend(bytes(words[1]));
+    }
+    all
+}
+
+fn hex(bytes: &[u8]) -> String {
+    bytes.iter().map(|byte| format!("{byte:02x}")).collect()
+}
+
+#[test]
+fn the_log_and_the_answers() {
+    let k = Logged::k();
+    assert_eq!(table("log"), k.log);
+    assert_eq!(table("answer"), k.answer(1, 2, 35));
+    assert_eq!(block("commitment"), [k.hex()]);
+    let forward = k.answer(2, 2, 20);
+    assert_eq!(table("forward"), forward[k.answer(0, 2, 20).len()..]);
+}
+
+#[test]
+fn the_digests() {
+    let versions = Graph::new(&log_k()).versions;
+    let mut expected = Vec::new();
+    for (name, digests) in [("incoming", incoming_digests(&versions)), ("outgoing", outgoing_digests(&versions))] {
+        for (version, digest) in versions.iter().zip(digests) {
+            expected.push(format!("{name} {} {} {}", version.name.entity, version.name.time, hex(&digest)));
+        }
+    }
+    assert_eq!(block("digests"), expected);
+    let line = |name: &str, version: &str| format!("{name} {version} {}", hex(&sha256(&table(name))));
+    assert!(expected.contains(&line("incoming", "2 30")));
+    assert!(expected.contains(&line("outgoing", "1 10")));
+}
+
+#[test]
+fn the_text_and_the_commands() {
+    let folder = Folder::new("handout");
+    let records = HANDOUT.lines().filter(|line| line.starts_with("    birth") || line.starts_with("    flow"));
+    let text = records.collect::<Vec<_>>().join("\n");
+    assert_eq!(run_on(text.as_bytes(), &["log", "-", "-o", &folder.path("k.log")]).good(), b"");
+    assert_eq!(folder.read("k.log"), table("log"));
+    let answer = folder.file("k.answer", &table("answer"));
+    assert_eq!(run(&["check", block("commitment")[0], "backward", "2", "35", &answer]).good(), b"found 2 at 30, 3 records\n");
+}
