@@ -33,7 +33,11 @@ fn main() -> ExitCode {
 fn run(options: Options, started: Instant, tally: &mut Tally) -> Result<(), String> {
     const PAUSE: Duration = Duration::from_secs(10);
     let mut next_word = started + PAUSE;
-    let first = if let End::Only(index) = options.end { index } else { 0 };
+    let mut first = 0;
+    if let End::Only(index) = options.end {
+        first = index;
+        Case { seed: options.seed, index }.calls().iter().for_each(|call| println!("{call:?}"));
+    }
     for index in first.. {
         let over = match options.end {
             End::After(time) => started.elapsed() >= time,

@@ -6,7 +6,7 @@ use reference::sha256::sha256;
 
 use super::Posed;
 
-/// One or two strings altered; once in two the strings above and the commitment follow, so that the proof fits.
+/// One or two strings altered; mostly the strings above and the commitment follow, so that the proof fits.
 pub fn edit(random: &mut Random, posed: &mut Posed) {
     let asked = [u64::from(posed.question.entity), posed.question.time];
     let strings = &mut posed.pieces.strings;
@@ -18,7 +18,7 @@ pub fn edit(random: &mut Random, posed: &mut Posed) {
         let at = random.index(strings.len());
         edit_string(random, &mut strings[at], asked);
     }
-    if random.once_in(2) {
+    if !random.once_in(4) {
         follow(&before, strings);
         posed.commitment = sha256(&strings[0]).to_vec();
     }

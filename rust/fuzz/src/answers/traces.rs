@@ -2,7 +2,9 @@
 
 use reference::edit::{any_count, edit, edit_letter};
 use reference::forge::{records_of, trace_letter, trace_with_count, versions_of, width};
+use reference::graph::Version;
 use reference::random::Random;
+use reference::{BACKWARD, FORWARD};
 
 use super::Posed;
 
@@ -38,13 +40,33 @@ fn edit_shown(random: &mut Random, posed: &mut Posed) {
     if !posed.pieces.records.iter().all(|record| is_whole(record)) {
         return edit_bytes(random, &mut posed.pieces.records);
     }
-    let mut versions = versions_of(&posed.pieces.records);
+    let direction = posed.question.direction;
+    let shown = versions_of(&posed.pieces.records);
+    let mut versions = edited(random, &shown);
+    for _ in 0..3 {
+        if !letters_are_due(direction, &versions) {
+            versions = edited(random, &shown);
+        }
+    }
+    posed.pieces.records = records_of(direction, &versions);
+    posed.pieces.header = Some(trace_with_count(trace_letter(direction), versions.len() as u32, &[]));
+}
+
+fn edited(random: &mut Random, shown: &[Version]) -> Vec<Version> {
+    let mut versions = shown.to_vec();
     for _ in 0..1 + random.index(2) {
         edit(random, &mut versions);
     }
-    let direction = posed.question.direction;
-    posed.pieces.records = records_of(direction, &versions);
-    posed.pieces.header = Some(trace_with_count(trace_letter(direction), versions.len() as u32, &[]));
+    versions
+}
+
+/// The records of these versions do not meet row 16, which would hide what comes after it.
+fn letters_are_due(direction: u8, versions: &[Version]) -> bool {
+    versions.iter().enumerate().all(|(own, version)| match (version.temporal, version.dependency) {
+        (None, None) => direction == BACKWARD || own == 0,
+        (Some(_), Some(_)) => direction == BACKWARD || own > 0,
+        _ => direction == FORWARD && own > 0,
+    })
 }
 
 /// A change may have left a record without the width of its letter.
