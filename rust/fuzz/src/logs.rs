@@ -1,5 +1,6 @@
 //! Logs: sound ones of several shapes, then changed by records, fields and bytes.
 
+use reference::listing::{MOST_BYTES, MOST_LISTED};
 use reference::log::{read, write, Record};
 use reference::random::{self, near, Random};
 use reference::sample::{births, in_turn, log_k, one_source, two_entities};
@@ -12,8 +13,11 @@ pub struct Log {
 
 /// Any log: sound once in some times; else with one fault, or with some changes.
 pub fn any(random: &mut Random) -> Log {
-    if random.once_in(2_000) {
+    if random.once_in(700) {
         return longest(random);
+    }
+    if random.once_in(60) {
+        return near_the_listing_limits(random);
     }
     let records = sound(random);
     let bytes = match random.below(8) {
@@ -25,7 +29,7 @@ pub fn any(random: &mut Random) -> Log {
     Log { records, bytes }
 }
 
-/// A sound log; one in some goes past the listing's limits.
+/// A sound log, mostly short.
 pub fn sound(random: &mut Random) -> Vec<Record> {
     let most = if random.once_in(100) { 700 } else { [1, 3, 8, 8, 20, 70][random.index(6)] };
     let count = 1 + random.index(most);
@@ -62,12 +66,28 @@ fn move_to_the_end(records: &mut [Record]) {
     }
 }
 
-/// The most records, or one more that begins; mostly the latter, because the former cost much.
+/// The most records, and mostly what follows them: without it the calls take long.
 fn longest(random: &mut Random) -> Log {
     let fault = random::overlong_log(random);
     let sound = fault.position as usize;
-    let end = [sound, sound + 1, fault.log.len(), fault.log.len()][random.index(4)];
+    let end = match random.below(12) {
+        0 => sound,
+        1..4 => sound + 1,
+        _ => fault.log.len(),
+    };
     Log { records: read(&fault.log[..sound]).expect("a sound log"), bytes: fault.log[..end].to_vec() }
+}
+
+/// About as many records or bytes as are listed. In so many bytes only a log that is refused tells whether they are too many.
+fn near_the_listing_limits(random: &mut Random) -> Log {
+    let count = MOST_LISTED - 3 + random.index(7);
+    let records = [births, one_source, in_turn][random.index(3)](count);
+    let mut bytes = write(&records);
+    if random.once_in(2) {
+        bytes = faulty(random, &records);
+        bytes.resize(MOST_BYTES - 2 + random.index(5), random.byte() % 4);
+    }
+    Log { records, bytes }
 }
 
 /// One fault of a row that is drawn, if a record can have it.

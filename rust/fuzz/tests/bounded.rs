@@ -5,7 +5,7 @@ use fuzz::case::Case;
 use fuzz::tally::Tally;
 
 const SEED: u64 = 1;
-const CASES: u64 = 30_000;
+const CASES: u64 = 24_000;
 
 fn run(seed: u64, cases: u64, library: impl Fn(&Call, Memory) -> Fields + Copy) -> Result<Tally, String> {
     let mut tally = Tally::default();

@@ -3,6 +3,7 @@
 use reference::edit::edit;
 use reference::forge::{e, fits, leaf, long_proof, pieces, proof_of_trace, s, trace, versions_of, Pieces};
 use reference::host::Host;
+use reference::log::MOST_RECORDS;
 use reference::random::{self, Random};
 use reference::sha256::sha256;
 use reference::{Question, BACKWARD, FORWARD};
@@ -21,7 +22,8 @@ pub fn any(random: &mut Random) -> Posed {
 
 /// The defined answer about a sound log, with a trace more often than not.
 pub fn honest(random: &mut Random) -> Posed {
-    let records = logs::sound(random);
+    let records =
+        if random.once_in(10_000) { random::records_of_length(random, MOST_RECORDS) } else { logs::sound(random) };
     let host = Host::new(&records);
     let mut answered = || {
         let question = random::question(random, &records);
@@ -48,8 +50,9 @@ fn forged(random: &mut Random) -> Posed {
 fn long(random: &mut Random) -> Posed {
     let question = Question { direction: random.below(3) as u8, entity: 1, time: 5 + random.below(3) };
     let time = random.below(9);
+    let depth = if random.once_in(100) { random.index(2_000) } else { random.index(40) };
     let (incoming, outgoing) = (sha256(&[0x49, 0]), sha256(&[0x4f, 0, 0, 0, 0]));
-    let strings = long_proof(random.index(40), leaf(1, time, &incoming, &outgoing));
+    let strings = long_proof(depth, leaf(1, time, &incoming, &outgoing));
     let commitment = sha256(&strings[0]).to_vec();
     let trace = match question.direction {
         BACKWARD => trace(b'B', &[e(1, time)]),

@@ -8,13 +8,14 @@ use fuzz::tally::Tally;
 fn main() {
     let wanted = std::env::args().nth(1).expect("what to touch");
     name_faults();
+    let wanted = wanted.as_str();
     let wrong = |call: &Call, memory: Memory| -> Fields {
-        touch(&wanted, &memory);
+        touch(wanted, &memory);
         proved(call, memory)
     };
     for index in 0..1_000 {
         // a write beside the lent bytes, but in their page, is told by the comparison; a later case has the other edge there
-        let _ = Case { seed: 1, index }.run(&wrong, &mut Tally::default());
+        let _ = Case { seed: 1, index }.run(wrong, &mut Tally::default());
     }
 }
 
