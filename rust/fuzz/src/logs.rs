@@ -80,8 +80,8 @@ fn longest(random: &mut Random) -> Log {
 
 /// About as many records or bytes as are listed. In so many bytes only a log that is refused tells whether they are too many.
 fn near_the_listing_limits(random: &mut Random) -> Log {
-    let count = MOST_LISTED - 3 + random.index(7);
-    let records = [births, one_source, in_turn][random.index(3)](count);
+    let count = MOST_LISTED - 1 + random.index(3);
+    let records = [births, births, one_source, in_turn][random.index(4)](count);
     let mut bytes = write(&records);
     if random.once_in(2) {
         bytes = faulty(random, &records);

@@ -62,7 +62,7 @@ fn edit_question(random: &mut Random, question: &mut Question) {
     }
 }
 
-/// Another length, one bit, or another log's.
+/// Another length, some bits, any bytes, or what another answer fits.
 fn edit_commitment(random: &mut Random, commitment: &mut Vec<u8>) {
     match random.below(4) {
         0 => commitment.resize([0, 1, 31, 33, 64][random.index(5)], 7),
