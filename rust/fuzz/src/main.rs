@@ -1,5 +1,7 @@
 //! Runs cases one after another, and stops at the first that differs.
 
+#![forbid(unsafe_code)]
+
 use std::process::ExitCode;
 use std::time::{Duration, Instant};
 
