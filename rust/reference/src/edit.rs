@@ -91,3 +91,22 @@ fn any_position(random: &mut Random, own: usize) -> usize {
         _ => random.index(own.max(1)),
     }
 }
+
+/// The letter of a record altered to another record's.
+pub fn edit_letter(random: &mut Random, records: &mut [Vec<u8>]) {
+    let at = random.index(records.len());
+    records[at][0] = b"ESTDV"[random.index(5)];
+}
+
+/// The count of a trace header: mostly the number of records, else next to it or at a bound.
+pub fn any_count(random: &mut Random, records: usize) -> u32 {
+    match random.below(40) {
+        0 => 0,
+        1 => 65_536,
+        2 => u32::MAX,
+        3 => 65_535,
+        4 => records as u32 + 1,
+        5 => (records as u32).saturating_sub(1),
+        _ => records as u32,
+    }
+}

@@ -175,6 +175,7 @@ pub fn long_proof(depth: usize, l: Vec<u8>) -> Vec<Vec<u8>> {
 }
 
 /// The pieces of a whole answer, each known by its letter.
+#[derive(Clone, Debug)]
 pub struct Pieces {
     pub strings: Vec<Vec<u8>>,
     /// None without a trace.
@@ -182,11 +183,18 @@ pub struct Pieces {
     pub records: Vec<Vec<u8>>,
 }
 
+impl Pieces {
+    /// The answer again.
+    pub fn bytes(&self) -> Vec<u8> {
+        [&self.strings[..], self.header.as_slice(), &self.records].concat().concat()
+    }
+}
+
 pub fn pieces(answer: &[u8]) -> Pieces {
     let mut strings = Vec::new();
     let mut rest = answer;
     while let Some(&letter) = rest.first() {
-        let (piece, after) = rest.split_at(width(letter));
+        let (piece, after) = rest.split_at(width(letter).expect("a piece's letter"));
         strings.push(piece.to_vec());
         rest = after;
     }
@@ -195,8 +203,9 @@ pub fn pieces(answer: &[u8]) -> Pieces {
     Pieces { strings, header: trace.next(), records: trace.collect() }
 }
 
-fn width(letter: u8) -> usize {
-    match letter {
+/// The width of a piece by its letter.
+pub fn width(letter: u8) -> Option<usize> {
+    Some(match letter {
         b'R' => ROOT,
         b'P' | b'N' => NODE,
         b'G' => GROUP,
@@ -206,8 +215,8 @@ fn width(letter: u8) -> usize {
         b'T' => 17,
         b'D' => 18,
         b'V' => 22,
-        _ => panic!("no piece has the letter {letter}"),
-    }
+        _ => return None,
+    })
 }
 
 /// The versions that whole records show.

@@ -247,7 +247,7 @@ pub fn question(random: &mut Random, records: &[Record]) -> Question {
 }
 
 /// A number, mostly itself, else next to it, the least, the greatest or any.
-fn near(random: &mut Random, number: u64) -> u64 {
+pub fn near(random: &mut Random, number: u64) -> u64 {
     match random.below(16) {
         0 | 1 => number.wrapping_add(1),
         2 | 3 => number.wrapping_sub(1),

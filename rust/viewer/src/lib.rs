@@ -1,85 +1,9 @@
 //! Safe calls of the proved library.
 //!
-//! The exported functions have no precondition: a slice is handed over as its pointer and its length, and a shared and a mutable
-//! borrow never overlap, which is all that they rely on.
+//! The calls here give what a caller needs of a result; those of `plain` give all of it.
 
-/// The exported functions and the layout of their results.
-mod exported {
-    #[repr(C)]
-    pub struct Outcome {
-        pub number: u64,
-        pub position: u64,
-    }
-
-    #[repr(C)]
-    pub struct Written {
-        pub number: u64,
-        pub position: u64,
-        pub length: u64,
-    }
-
-    #[repr(C)]
-    pub struct Checked {
-        pub number: u64,
-        pub position: u64,
-        pub verdict: u64,
-        pub time: u64,
-        pub count: u64,
-    }
-
-    #[repr(C)]
-    pub struct Part {
-        pub start: u64,
-        pub length: u64,
-    }
-
-    extern "C" {
-        pub fn bozhtagul_hash(message: *const u8, message_len: usize, out: *mut u8, out_len: usize) -> Outcome;
-        pub fn bozhtagul_log(log: *const u8, log_len: usize) -> Written;
-        pub fn bozhtagul_listing(input: *const u8, input_len: usize, out: *mut u8, out_len: usize) -> Written;
-        pub fn bozhtagul_commitment(
-            log: *const u8,
-            log_len: usize,
-            work: *mut u8,
-            work_len: usize,
-            out: *mut u8,
-            out_len: usize,
-        ) -> Outcome;
-        pub fn bozhtagul_check(
-            direction: u8,
-            entity: u32,
-            time: u64,
-            commitment: *const u8,
-            commitment_len: usize,
-            answer: *const u8,
-            answer_len: usize,
-            work: *mut u8,
-            work_len: usize,
-        ) -> Checked;
-        pub fn bozhtagul_records(
-            direction: u8,
-            entity: u32,
-            time: u64,
-            commitment: *const u8,
-            commitment_len: usize,
-            answer: *const u8,
-            answer_len: usize,
-            work: *mut u8,
-            work_len: usize,
-        ) -> Part;
-        pub fn bozhtagul_answer(
-            direction: u8,
-            entity: u32,
-            time: u64,
-            log: *const u8,
-            log_len: usize,
-            work: *mut u8,
-            work_len: usize,
-            out: *mut u8,
-            out_len: usize,
-        ) -> Written;
-    }
-}
+/// The calls as they are exported: every field of their results.
+pub mod plain;
 
 /// A row of document 01's table: its number, and the byte position that it returns.
 #[derive(Clone, Copy, Debug, PartialEq, Eq)]
@@ -126,14 +50,14 @@ pub enum Verdict {
     Found { time: u64, count: u64 },
 }
 
-fn accepted(outcome: exported::Outcome) -> Result<(), Refusal> {
+fn accepted(outcome: plain::Outcome) -> Result<(), Refusal> {
     match outcome.number {
         0 => Ok(()),
         number => Err(Refusal { number, position: outcome.position }),
     }
 }
 
-fn counted(written: exported::Written) -> Result<u64, Refusal> {
+fn counted(written: plain::Written) -> Result<u64, Refusal> {
     match written.number {
         0 => Ok(written.length),
         number => Err(Refusal { number, position: written.position }),
@@ -142,76 +66,36 @@ fn counted(written: exported::Written) -> Result<u64, Refusal> {
 
 /// Writes the SHA-256 of a message to the first 32 bytes of `out`. A shorter `out` is row 13, and stays as it was.
 pub fn hash(message: &[u8], out: &mut [u8]) -> Result<(), Refusal> {
-    accepted(unsafe { exported::bozhtagul_hash(message.as_ptr(), message.len(), out.as_mut_ptr(), out.len()) })
+    accepted(plain::hash(message, out))
 }
 
 /// The number of records of a sound log; else the row of 1 to 10 that it meets.
 pub fn log(log: &[u8]) -> Result<u64, Refusal> {
-    counted(unsafe { exported::bozhtagul_log(log.as_ptr(), log.len()) })
+    counted(plain::log(log))
 }
 
 /// Writes what the listing program prints for an input to the first bytes of `out`, and gives its length. A shorter `out` is row 13, and
 /// stays as it was.
 pub fn listing(input: &[u8], out: &mut [u8]) -> Result<u64, Refusal> {
-    counted(unsafe { exported::bozhtagul_listing(input.as_ptr(), input.len(), out.as_mut_ptr(), out.len()) })
+    counted(plain::listing(input, out))
 }
 
 /// Writes a log's commitment to the first 32 bytes of `out`; else the row of 1 to 10, 12 or 13 that the call meets, and `out` stays as it
 /// was. The work area takes 128 bytes a record (`work_area`), and is all zero afterwards.
 pub fn commitment(log: &[u8], work: &mut [u8], out: &mut [u8]) -> Result<(), Refusal> {
-    accepted(unsafe {
-        exported::bozhtagul_commitment(
-            log.as_ptr(),
-            log.len(),
-            work.as_mut_ptr(),
-            work.len(),
-            out.as_mut_ptr(),
-            out.len(),
-        )
-    })
+    accepted(plain::commitment(log, work, out))
 }
 
 /// Writes the answer to a question about a log to the first bytes of `out`, and gives its length; else the row of 1 to 13 that the call
 /// meets, and `out` stays as it was. The work area is as for `commitment`. An answer has at most 3,211 bytes and 22 a record.
 pub fn answer(question: &Question, log: &[u8], work: &mut [u8], out: &mut [u8]) -> Result<u64, Refusal> {
-    counted(unsafe {
-        exported::bozhtagul_answer(
-            question.direction.number(),
-            question.entity,
-            question.time,
-            log.as_ptr(),
-            log.len(),
-            work.as_mut_ptr(),
-            work.len(),
-            out.as_mut_ptr(),
-            out.len(),
-        )
-    })
-}
-
-/// The arguments that `check` and `records` share, handed to one of the two.
-macro_rules! on_answer {
-    ($call:ident, $question:expr, $commitment:expr, $answer:expr, $work:expr) => {
-        unsafe {
-            exported::$call(
-                $question.direction.number(),
-                $question.entity,
-                $question.time,
-                $commitment.as_ptr(),
-                $commitment.len(),
-                $answer.as_ptr(),
-                $answer.len(),
-                $work.as_mut_ptr(),
-                $work.len(),
-            )
-        }
-    };
+    counted(plain::answer(question.direction.number(), question.entity, question.time, log, work, out))
 }
 
 /// Checks an answer against a commitment: the verdict, if the answer is accepted; else the row of 11, 12 and 14 to 24 that it meets. The
 /// work area takes 128 bytes a record of the trace (`work_for`), and is all zero afterwards.
 pub fn check(question: &Question, commitment: &[u8], answer: &[u8], work: &mut [u8]) -> Result<Verdict, Refusal> {
-    let checked = on_answer!(bozhtagul_check, question, commitment, answer, work);
+    let checked = plain::check(question.direction.number(), question.entity, question.time, commitment, answer, work);
     match (checked.number, checked.verdict) {
         (0, 1) => Ok(Verdict::NoEntity),
         (0, 2) => Ok(Verdict::NotYet),
@@ -224,7 +108,7 @@ pub fn check(question: &Question, commitment: &[u8], answer: &[u8], work: &mut [
 /// The checked records as that part of the answer, without the trace header; empty if there are none or the check refuses. The work area
 /// is as for `check`.
 pub fn records<'a>(question: &Question, commitment: &[u8], answer: &'a [u8], work: &mut [u8]) -> &'a [u8] {
-    let part = on_answer!(bozhtagul_records, question, commitment, answer, work);
+    let part = plain::records(question.direction.number(), question.entity, question.time, commitment, answer, work);
     &answer[part.start as usize..][..part.length as usize]
 }
 

@@ -4,7 +4,7 @@
 mod common;
 
 use common::*;
-use reference::edit::edit;
+use reference::edit::{any_count, edit, edit_letter};
 use reference::forge::{records_of, trace_letter, trace_with_count};
 use reference::host::Host;
 use reference::random::{self, Random};
@@ -113,24 +113,6 @@ fn parts_of_random_answers() {
     met.exactly(0, 100, &[15, 16, 17, 18]);
     met.includes(1, 5, &[12, 15, 16, 17, 18, 19, 20, 21, 23, 24]);
     met.includes(2, 5, &[12, 15, 16, 17, 18, 19, 20, 21, 23, 24]);
-}
-
-/// The letter of a record altered to another record's.
-fn edit_letter(random: &mut Random, records: &mut [Vec<u8>]) {
-    let at = random.index(records.len());
-    records[at][0] = b"ESTDV"[random.index(5)];
-}
-
-fn any_count(random: &mut Random, records: usize) -> u32 {
-    match random.below(40) {
-        0 => 0,
-        1 => 65_536,
-        2 => u32::MAX,
-        3 => 65_535,
-        4 => records as u32 + 1,
-        5 => records as u32 - 1,
-        _ => records as u32,
-    }
 }
 
 /// The answer with one or two changes of what its trace shows, and now and then of its letters, its count or its end.

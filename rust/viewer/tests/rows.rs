@@ -7,6 +7,7 @@ use reference::forge::{e, pieces, trace_with_count, Pieces};
 use reference::host::Host;
 use reference::sample::log_k;
 use reference::Question;
+use viewer::plain;
 
 /// A question about Log K and its answer in pieces, with what a fault can change.
 #[derive(Clone)]
@@ -70,58 +71,18 @@ impl Case {
     fn number(&self) -> u64 {
         let (answer, work) = (self.answer(), self.work());
         let checked = check(&self.question, &self.commitment, &answer, work);
-        raw::compare(&self.question, &self.commitment, &answer, work);
+        compare(&self.question, &self.commitment, &answer, work);
         checked.err().map_or(0, |refusal| refusal.number)
     }
 }
 
-/// The exported check itself: the safe call does not show the fields that are 0 when it refuses.
-mod raw {
-    use super::common::with_work;
-    use reference::Question;
-
-    #[repr(C)]
-    struct Checked {
-        number: u64,
-        position: u64,
-        verdict: u64,
-        time: u64,
-        count: u64,
-    }
-
-    extern "C" {
-        fn bozhtagul_check(
-            direction: u8,
-            entity: u32,
-            time: u64,
-            commitment: *const u8,
-            commitment_len: usize,
-            answer: *const u8,
-            answer_len: usize,
-            work: *mut u8,
-            work_len: usize,
-        ) -> Checked;
-    }
-
-    pub fn compare(question: &Question, commitment: &[u8], answer: &[u8], work: usize) {
-        let Question { direction, entity, time } = *question;
-        let given = with_work(work, |work| unsafe {
-            bozhtagul_check(
-                direction,
-                entity,
-                time,
-                commitment.as_ptr(),
-                commitment.len(),
-                answer.as_ptr(),
-                answer.len(),
-                work.as_mut_ptr(),
-                work.len(),
-            )
-        });
-        let Checked { number, position, verdict, time: found, count } = given;
-        let given = reference::Checked { number, position, verdict, time: found, count };
-        assert_eq!(given, reference::check(direction, entity, time, commitment, answer, &mut vec![0; work]));
-    }
+/// Every field of the exported check's result: the safe call does not show those that are 0 when it refuses.
+fn compare(question: &Question, commitment: &[u8], answer: &[u8], work: usize) {
+    let Question { direction, entity, time } = *question;
+    let given = with_work(work, |work| plain::check(direction, entity, time, commitment, answer, work));
+    let plain::Checked { number, position, verdict, time: found, count } = given;
+    let given = reference::Checked { number, position, verdict, time: found, count };
+    assert_eq!(given, reference::check(direction, entity, time, commitment, answer, &mut vec![0; work]));
 }
 
 /// A change of a case that makes it meet a row.

@@ -1,0 +1,80 @@
+//! Answers before any change: true ones, and ones that fit a commitment that no log has.
+
+use reference::edit::edit;
+use reference::forge::{e, fits, leaf, long_proof, pieces, proof_of_trace, s, trace, versions_of, Pieces};
+use reference::host::Host;
+use reference::log::MOST_RECORDS;
+use reference::random::{self, Random};
+use reference::sha256::sha256;
+use reference::{Question, BACKWARD, FORWARD};
+
+use super::Posed;
+use crate::logs;
+
+pub fn any(random: &mut Random) -> Posed {
+    match random.below(8) {
+        0 | 1 => forged(random),
+        2 => long(random),
+        3 => fitted(random),
+        _ => honest(random),
+    }
+}
+
+/// The defined answer about a sound log, with a trace more often than not.
+pub fn honest(random: &mut Random) -> Posed {
+    let records =
+        if random.once_in(10_000) { random::records_of_length(random, MOST_RECORDS) } else { logs::sound(random) };
+    let host = Host::new(&records);
+    let mut answered = || {
+        let question = random::question(random, &records);
+        (question, pieces(&host.answer(&question)))
+    };
+    let beside = Some(answered().1);
+    let mut last = answered();
+    for _ in 0..2 {
+        if last.1.header.is_none() {
+            last = answered();
+        }
+    }
+    let (question, pieces) = last;
+    Posed { question, commitment: host.commitment().to_vec(), pieces, beside }
+}
+
+/// Trees of any keys, and a trace of any edges.
+fn forged(random: &mut Random) -> Posed {
+    let random::Forged { question, commitment, answer } = random::forged(random);
+    Posed { question, commitment: commitment.to_vec(), pieces: pieces(&answer), beside: None }
+}
+
+/// A deep walk to a version without edges.
+fn long(random: &mut Random) -> Posed {
+    let question = Question { direction: random.below(3) as u8, entity: 1, time: 5 + random.below(3) };
+    let time = random.below(9);
+    let depth = if random.once_in(100) { random.index(2_000) } else { random.index(40) };
+    let (incoming, outgoing) = (sha256(&[0x49, 0]), sha256(&[0x4f, 0, 0, 0, 0]));
+    let strings = long_proof(depth, leaf(1, time, &incoming, &outgoing));
+    let commitment = sha256(&strings[0]).to_vec();
+    let trace = match question.direction {
+        BACKWARD => trace(b'B', &[e(1, time)]),
+        FORWARD => trace(b'F', &[s(1, time)]),
+        _ => Vec::new(),
+    };
+    Posed { question, commitment, pieces: Pieces { strings, ..pieces(&trace) }, beside: None }
+}
+
+/// What an honest trace shows after some changes, under a commitment made for it.
+fn fitted(random: &mut Random) -> Posed {
+    let posed = honest(random);
+    let mut versions = versions_of(&posed.pieces.records);
+    if versions.is_empty() {
+        return posed;
+    }
+    for _ in 0..random.index(3) {
+        edit(random, &mut versions);
+    }
+    if !fits(&versions) {
+        return posed;
+    }
+    let fitting = proof_of_trace(&posed.question, &versions);
+    Posed { commitment: fitting.commitment.to_vec(), pieces: pieces(&fitting.answer), ..posed }
+}

@@ -1,0 +1,18 @@
+//! Differential fuzzing: every exported call of the proved library beside the Rust version's, on made-up inputs.
+//!
+//! A case is a function of a seed and an index. It is some calls: of `hash` on a message; of `log`, `listing`, `commitment` and
+//! `answer` on a log; or of `check` and `records` on an answer. All memory that is lent to the library stands beside pages that may
+//! not be touched. Linux only, because of these.
+
+#![deny(unsafe_code)]
+
+pub mod answers;
+pub mod call;
+pub mod case;
+pub mod compare;
+#[allow(unsafe_code)]
+pub mod guard;
+pub mod lengths;
+pub mod logs;
+pub mod options;
+pub mod tally;

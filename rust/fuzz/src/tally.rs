@@ -1,0 +1,65 @@
+//! What was run: cases, calls, rows met and verdicts.
+
+use std::fmt;
+
+use crate::call::{field, Call, Fields, Name, NAMES};
+
+/// Rows are counted by call, 0 for a call that is not turned away; verdicts by direction, 0 for none.
+#[derive(Clone, Debug, Default)]
+pub struct Tally {
+    pub cases: u64,
+    rows: [[u64; 25]; NAMES.len()],
+    verdicts: [[u64; 4]; 3],
+    /// Calls of `records` that gave some.
+    with_records: u64,
+}
+
+impl Tally {
+    pub fn add(&mut self, call: &Call, fields: &Fields) {
+        self.rows[call.name as usize][field(fields, "number") as usize] += 1;
+        let verdict = field(fields, "verdict");
+        if verdict > 0 {
+            self.verdicts[call.question.direction as usize][verdict as usize] += 1;
+        }
+        self.with_records += u64::from(call.name == Name::Records && field(fields, "length") > 0);
+    }
+
+    pub fn calls(&self, name: Name) -> u64 {
+        self.rows[name as usize].iter().sum()
+    }
+
+    /// The rows that a call met, 0 if it went through.
+    pub fn rows_of(&self, name: Name) -> Vec<usize> {
+        (0..25).filter(|&row| self.rows[name as usize][row] > 0).collect()
+    }
+
+    /// The rows that any call met.
+    pub fn rows(&self) -> Vec<usize> {
+        (1..25).filter(|&row| self.rows.iter().any(|rows| rows[row] > 0)).collect()
+    }
+
+    /// How often the check gave a verdict (1 no entity, 2 not yet, 3 found) in a direction.
+    pub fn verdicts(&self, direction: usize, verdict: usize) -> u64 {
+        self.verdicts[direction][verdict]
+    }
+
+    pub fn with_records(&self) -> u64 {
+        self.with_records
+    }
+}
+
+/// A line a call: how often it was made, and how often it met each row.
+impl fmt::Display for Tally {
+    fn fmt(&self, text: &mut fmt::Formatter) -> fmt::Result {
+        for name in NAMES {
+            write!(text, "{:<10} {:>9} calls, through {}", format!("{name:?}"), self.calls(name), self.rows[name as usize][0])?;
+            for row in self.rows_of(name).into_iter().filter(|row| *row > 0) {
+                write!(text, ", row {row}: {}", self.rows[name as usize][row])?;
+            }
+            writeln!(text)?;
+        }
+        let sum = |verdict: usize| self.verdicts.iter().map(|verdicts| verdicts[verdict]).sum::<u64>();
+        write!(text, "verdicts: {} no entity, {} not yet, {} found; ", sum(1), sum(2), sum(3))?;
+        write!(text, "{} with records", self.with_records)
+    }
+}

@@ -1,0 +1,105 @@
+//! A bounded number of cases: no case differs, and they reach every row, every verdict and every call.
+
+use fuzz::call::{proved, Call, Fields, Memory, Name, NAMES};
+use fuzz::case::Case;
+use fuzz::tally::Tally;
+
+const SEED: u64 = 1;
+const CASES: u64 = 24_000;
+
+fn run(seed: u64, cases: u64, library: impl Fn(&Call, Memory) -> Fields + Copy) -> Result<Tally, String> {
+    let mut tally = Tally::default();
+    for index in 0..cases {
+        Case { seed, index }.run(library, &mut tally)?;
+    }
+    Ok(tally)
+}
+
+/// The rows that a call can meet, and 0: going through.
+fn rows(name: Name) -> Vec<usize> {
+    let log = 1..=9;
+    match name {
+        Name::Hash | Name::Listing => vec![0, 13],
+        Name::Log => (0..=9).collect(),
+        Name::Commitment => [0].into_iter().chain(log).chain([12, 13]).collect(),
+        Name::Answer => [0].into_iter().chain(log).chain([11, 12, 13]).collect(),
+        Name::Check => [0, 11, 12].into_iter().chain(14..=24).collect(),
+        Name::Records => vec![0],
+    }
+}
+
+#[test]
+fn no_case_differs_and_all_is_reached() {
+    let tally = run(SEED, CASES, proved).unwrap_or_else(|difference| panic!("{difference}"));
+    assert_eq!(tally.cases, CASES);
+    for name in NAMES {
+        assert!(tally.calls(name) > 5_000, "{name:?}: {} calls", tally.calls(name));
+        assert_eq!(tally.rows_of(name), rows(name), "{name:?}");
+    }
+    assert_eq!(tally.rows(), (1..=24).filter(|row| *row != 10).collect::<Vec<_>>());
+    for direction in 0..3 {
+        for verdict in 1..=3 {
+            assert!(tally.verdicts(direction, verdict) > 20, "direction {direction}, verdict {verdict}\n{tally}");
+        }
+    }
+    assert!(tally.with_records() > 500, "{tally}");
+}
+
+/// Leaves the last byte of the work area as it was.
+fn keeps_a_byte(call: &Call, memory: Memory) -> Fields {
+    let Memory { commitment, input, work, out } = memory;
+    let last = work.last().copied();
+    let fields = proved(call, Memory { commitment, input, work: &mut *work, out });
+    if let (Some(byte), Some(last)) = (work.last_mut(), last) {
+        *byte = last;
+    }
+    fields
+}
+
+/// Writes a byte of an output that is too short.
+fn writes_though_refused(call: &Call, memory: Memory) -> Fields {
+    let Memory { commitment, input, work, out } = memory;
+    let fields = proved(call, Memory { commitment, input, work, out: &mut *out });
+    if let (Some(byte), ("number", 13)) = (out.first_mut(), fields[0]) {
+        *byte ^= 1;
+    }
+    fields
+}
+
+/// Does not know row 22.
+fn takes_22_for_24(call: &Call, memory: Memory) -> Fields {
+    let mut fields = proved(call, memory);
+    if fields[0] == ("number", 22) {
+        fields[0].1 = 24;
+    }
+    fields
+}
+
+/// Takes an even time for the next odd one.
+fn asks_for_another_time(call: &Call, memory: Memory) -> Fields {
+    let mut other = call.clone();
+    other.question.time |= 1;
+    proved(&other, memory)
+}
+
+/// Wrong libraries, each nearly right: the same cases tell them from the proved one.
+#[test]
+fn wrong_libraries_are_told_apart() {
+    let wrong: [fn(&Call, Memory) -> Fields; 4] =
+        [keeps_a_byte, writes_though_refused, takes_22_for_24, asks_for_another_time];
+    for (place, library) in wrong.into_iter().enumerate() {
+        let difference = run(SEED, CASES, library).expect_err(&format!("wrong library {place} passes"));
+        assert!(difference.contains("fuzz/run --seed 1 --case "), "{difference}");
+    }
+}
+
+/// A case's number is enough to make it again, and another seed makes another.
+#[test]
+fn a_case_is_its_seed_and_index() {
+    let text = |seed, index| format!("{:?}", Case { seed, index }.calls());
+    for index in 0..200 {
+        assert_eq!(text(SEED, index), text(SEED, index));
+        assert_ne!(text(SEED, index), text(SEED + 1, index));
+        assert_ne!(text(SEED, index), text(SEED, index + 1));
+    }
+}

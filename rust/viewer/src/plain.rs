@@ -1,0 +1,127 @@
+//! The exported calls on slices and plain numbers, with every field of their results.
+//!
+//! The exported functions have no precondition: a slice is handed over as its pointer and its length, and a shared and a mutable
+//! borrow never overlap, which is all that they rely on.
+
+/// A row's number and position; 0 and 0 if the call is not turned away.
+#[repr(C)]
+#[derive(Clone, Copy, Debug, PartialEq, Eq)]
+pub struct Outcome {
+    pub number: u64,
+    pub position: u64,
+}
+
+/// The same, with the length of the bytes written, or of the log in records.
+#[repr(C)]
+#[derive(Clone, Copy, Debug, PartialEq, Eq)]
+pub struct Written {
+    pub number: u64,
+    pub position: u64,
+    pub length: u64,
+}
+
+/// The same, with the verdict: 0 refused, 1 no entity, 2 not yet, 3 found, at the time and with the count of records.
+#[repr(C)]
+#[derive(Clone, Copy, Debug, PartialEq, Eq)]
+pub struct Checked {
+    pub number: u64,
+    pub position: u64,
+    pub verdict: u64,
+    pub time: u64,
+    pub count: u64,
+}
+
+/// A part of the answer.
+#[repr(C)]
+#[derive(Clone, Copy, Debug, PartialEq, Eq)]
+pub struct Part {
+    pub start: u64,
+    pub length: u64,
+}
+
+/// The exported functions.
+mod exported {
+    use super::{Checked, Outcome, Part, Written};
+
+    extern "C" {
+        pub fn bozhtagul_hash(message: *const u8, message_len: usize, out: *mut u8, out_len: usize) -> Outcome;
+        pub fn bozhtagul_log(log: *const u8, log_len: usize) -> Written;
+        pub fn bozhtagul_listing(input: *const u8, input_len: usize, out: *mut u8, out_len: usize) -> Written;
+        pub fn bozhtagul_commitment(
+            log: *const u8,
+            log_len: usize,
+            work: *mut u8,
+            work_len: usize,
+            out: *mut u8,
+            out_len: usize,
+        ) -> Outcome;
+        pub fn bozhtagul_check(
+            direction: u8,
+            entity: u32,
+            time: u64,
+            commitment: *const u8,
+            commitment_len: usize,
+            answer: *const u8,
+            answer_len: usize,
+            work: *mut u8,
+            work_len: usize,
+        ) -> Checked;
+        pub fn bozhtagul_records(
+            direction: u8,
+            entity: u32,
+            time: u64,
+            commitment: *const u8,
+            commitment_len: usize,
+            answer: *const u8,
+            answer_len: usize,
+            work: *mut u8,
+            work_len: usize,
+        ) -> Part;
+        pub fn bozhtagul_answer(
+            direction: u8,
+            entity: u32,
+            time: u64,
+            log: *const u8,
+            log_len: usize,
+            work: *mut u8,
+            work_len: usize,
+            out: *mut u8,
+            out_len: usize,
+        ) -> Written;
+    }
+}
+
+/// An exported function on numbers, then slices to read, then slices to write, each as its pointer and its length.
+macro_rules! lend {
+    ($call:ident, [$($number:ident),*], [$($read:ident),*], [$($written:ident),*]) => {
+        unsafe { exported::$call($($number,)* $($read.as_ptr(), $read.len(),)* $($written.as_mut_ptr(), $written.len(),)*) }
+    };
+}
+
+pub fn hash(message: &[u8], out: &mut [u8]) -> Outcome {
+    lend!(bozhtagul_hash, [], [message], [out])
+}
+
+pub fn log(log: &[u8]) -> Written {
+    lend!(bozhtagul_log, [], [log], [])
+}
+
+pub fn listing(input: &[u8], out: &mut [u8]) -> Written {
+    lend!(bozhtagul_listing, [], [input], [out])
+}
+
+pub fn commitment(log: &[u8], work: &mut [u8], out: &mut [u8]) -> Outcome {
+    lend!(bozhtagul_commitment, [], [log], [work, out])
+}
+
+pub fn answer(direction: u8, entity: u32, time: u64, log: &[u8], work: &mut [u8], out: &mut [u8]) -> Written {
+    lend!(bozhtagul_answer, [direction, entity, time], [log], [work, out])
+}
+
+pub fn check(direction: u8, entity: u32, time: u64, commitment: &[u8], answer: &[u8], work: &mut [u8]) -> Checked {
+    lend!(bozhtagul_check, [direction, entity, time], [commitment, answer], [work])
+}
+
+pub fn records(direction: u8, entity: u32, time: u64, commitment: &[u8], answer: &[u8], work: &mut [u8]) -> Part {
+    lend!(bozhtagul_records, [direction, entity, time], [commitment, answer], [work])
+}
