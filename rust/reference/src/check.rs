@@ -3,9 +3,10 @@
 use std::ops::Range;
 
 use crate::fields::{digest_at, u32_at, u64_at};
-use crate::graph::{incoming_digests, outgoing_digests, Dependency, Name, Version};
+use crate::graph::{incoming_digests_by, outgoing_digests_by, Dependency, Name, Version};
+use crate::hash::{Hash, H};
 use crate::log::MOST_RECORDS;
-use crate::sha256::{sha256, Digest};
+use crate::sha256::Digest;
 use crate::tree::{Subtree, GROUP, LEAF, NODE, ROOT};
 use crate::{enough_work, refuse, Question, Refusal, BACKWARD, FORWARD};
 
@@ -39,7 +40,12 @@ struct Leaf {
 }
 
 /// The rows by their order: 11, 14, the proof, the trace.
-pub fn check(
+pub fn check(question: &Question, commitment: &[u8], answer: &[u8], work: usize) -> Result<Accepted, Refusal> {
+    check_by(&mut H, question, commitment, answer, work)
+}
+
+pub fn check_by(
+    hash: &mut impl Hash,
     question: &Question,
     commitment: &[u8],
     answer: &[u8],
@@ -52,11 +58,11 @@ pub fn check(
         return refuse(14, 0);
     };
     let mut cursor = Cursor { answer, place: 0 };
-    let verdict = match proof(question, commitment, &mut cursor)? {
+    let verdict = match proof(hash, question, commitment, &mut cursor)? {
         End::NoEntity => Verdict::NoEntity,
         End::NotYet => Verdict::NotYet,
         End::Found(leaf) if question.direction == BACKWARD || question.direction == FORWARD => {
-            return trace(question.direction, &leaf, &mut cursor, work);
+            return trace(hash, question.direction, &leaf, &mut cursor, work);
         }
         End::Found(leaf) => Verdict::Found { time: leaf.name.time, count: 0 },
     };
@@ -89,10 +95,10 @@ impl<'a> Cursor<'a> {
     }
 
     /// A proof string: as a piece, then 17.
-    fn open(&mut self, letter: u8, width: usize, due: &Digest) -> Result<&'a [u8], Refusal> {
+    fn open(&mut self, hash: &mut impl Hash, letter: u8, width: usize, due: &Digest) -> Result<&'a [u8], Refusal> {
         let start = self.place;
         let string = self.piece(|found| (found == letter).then_some(width))?;
-        if sha256(string) != *due {
+        if hash.of(string) != *due {
             return refuse(17, start);
         }
         Ok(string)
@@ -108,48 +114,48 @@ impl<'a> Cursor<'a> {
 }
 
 /// The opened strings, top down.
-fn proof(question: &Question, commitment: &Digest, cursor: &mut Cursor) -> Result<End, Refusal> {
-    let root = cursor.open(b'R', ROOT, commitment)?;
-    let Some(tree) = entity_walk(u64::from(question.entity), Subtree::at(root, 17), cursor)? else {
+fn proof(hash: &mut impl Hash, question: &Question, commitment: &Digest, cursor: &mut Cursor) -> Result<End, Refusal> {
+    let root = cursor.open(hash, b'R', ROOT, commitment)?;
+    let Some(tree) = entity_walk(hash, u64::from(question.entity), Subtree::at(root, 17), cursor)? else {
         return Ok(End::NoEntity);
     };
-    let Some(leaf) = time_walk(question.time, tree, cursor)? else {
+    let Some(leaf) = time_walk(hash, question.time, tree, cursor)? else {
         return Ok(End::NotYet);
     };
     Ok(End::Found(leaf))
 }
 
 /// The walk in the tree of entities; gives the entity's tree, or none: no entity.
-fn entity_walk(s: u64, mut known: Subtree, cursor: &mut Cursor) -> Result<Option<Subtree>, Refusal> {
+fn entity_walk(hash: &mut impl Hash, s: u64, mut known: Subtree, cursor: &mut Cursor) -> Result<Option<Subtree>, Refusal> {
     loop {
         if s < known.least || s > known.greatest {
             return Ok(None);
         }
         if known.least == known.greatest {
-            let string = cursor.open(b'G', GROUP, &known.digest)?;
+            let string = cursor.open(hash, b'G', GROUP, &known.digest)?;
             return Ok(Some(Subtree::at(string, 9)));
         }
-        let string = cursor.open(b'P', NODE, &known.digest)?;
+        let string = cursor.open(hash, b'P', NODE, &known.digest)?;
         let (left, right) = (Subtree::at(string, 1), Subtree::at(string, 49));
         known = if s <= left.greatest { left } else { right };
     }
 }
 
 /// The walk in the entity's tree; gives the opened L, or none: not yet.
-fn time_walk(t: u64, mut known: Subtree, cursor: &mut Cursor) -> Result<Option<Leaf>, Refusal> {
+fn time_walk(hash: &mut impl Hash, t: u64, mut known: Subtree, cursor: &mut Cursor) -> Result<Option<Leaf>, Refusal> {
     loop {
         if t < known.least {
             return Ok(None);
         }
         if known.least == known.greatest {
-            let string = cursor.open(b'L', LEAF, &known.digest)?;
+            let string = cursor.open(hash, b'L', LEAF, &known.digest)?;
             return Ok(Some(Leaf {
                 name: Name { entity: u32_at(string, 1), time: u64_at(string, 5) },
                 incoming: digest_at(string, 13),
                 outgoing: digest_at(string, 45),
             }));
         }
-        let string = cursor.open(b'N', NODE, &known.digest)?;
+        let string = cursor.open(hash, b'N', NODE, &known.digest)?;
         let (left, right) = (Subtree::at(string, 1), Subtree::at(string, 49));
         known = if t >= right.least { right } else { left };
     }
@@ -162,7 +168,7 @@ struct TraceRecord {
 }
 
 /// The trace: header, each record, then 18, 22, 23, 24.
-fn trace(direction: u8, leaf: &Leaf, cursor: &mut Cursor, work: usize) -> Result<Accepted, Refusal> {
+fn trace(hash: &mut impl Hash, direction: u8, leaf: &Leaf, cursor: &mut Cursor, work: usize) -> Result<Accepted, Refusal> {
     let count = header(direction, cursor, work)?;
     let first = cursor.place;
     let mut starts = Vec::new();
@@ -184,9 +190,9 @@ fn trace(direction: u8, leaf: &Leaf, cursor: &mut Cursor, work: usize) -> Result
         return refuse(23, starts[found]);
     }
     let same = if direction == BACKWARD {
-        incoming_digests(&versions)[found] == leaf.incoming
+        incoming_digests_by(hash, &versions)[found] == leaf.incoming
     } else {
-        outgoing_digests(&versions)[found] == leaf.outgoing
+        outgoing_digests_by(hash, &versions)[found] == leaf.outgoing
     };
     if !same {
         return refuse(24, starts[found]);

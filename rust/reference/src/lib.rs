@@ -10,10 +10,12 @@
 #![forbid(unsafe_code)]
 
 pub mod check;
+pub mod clash;
 pub mod edit;
 pub mod fields;
 pub mod forge;
 pub mod graph;
+pub mod hash;
 pub mod host;
 pub mod listing;
 pub mod log;

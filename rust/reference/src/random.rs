@@ -4,6 +4,7 @@
 use crate::forge::{fits, found_place, records_of, trace_letter, trace_with_count};
 use crate::graph::{incoming_digests, outgoing_digests, Dependency, Name, Version};
 use crate::log::{write, Record, MOST_RECORDS};
+use crate::hash::H;
 use crate::sha256::{sha256, Digest};
 use crate::tree::{Subtree, NODE};
 use crate::{Question, BACKWARD, FORWARD};
@@ -365,7 +366,7 @@ fn forged_group(random: &mut Random, question: &Question) -> Opening {
     string.extend_from_slice(&tree.known.bytes());
     let asked = u64::from(question.entity);
     let key = if random.once_in(4) { forged_keys(random, asked).0 } else { asked };
-    Opening { known: Subtree::leaf(key, &string), string, below: vec![tree], trace: Vec::new() }
+    Opening { known: Subtree::leaf(&mut H, key, &string), string, below: vec![tree], trace: Vec::new() }
 }
 
 fn forged_leaf(random: &mut Random, question: &Question) -> Opening {
@@ -384,7 +385,7 @@ fn forged_leaf(random: &mut Random, question: &Question) -> Opening {
     let string = crate::tree::leaf_string(name, &incoming, &outgoing).to_vec();
     let trace = if direction == 0 { Vec::new() } else { forged_trace(random, direction, &versions) };
     let key = forged_keys(random, question.time).0;
-    Opening { known: Subtree::leaf(key, &string), string, below: Vec::new(), trace }
+    Opening { known: Subtree::leaf(&mut H, key, &string), string, below: Vec::new(), trace }
 }
 
 /// Versions with arbitrary edges, mostly from earlier ones and by rising time.

@@ -1,5 +1,6 @@
 //! The forest grown leaf by leaf against the tree by the split.
 
+use reference::hash::H;
 use reference::random::Random;
 use reference::tree::{join, node_string, split, tree, Forest, Letter, Subtree};
 
@@ -8,7 +9,7 @@ fn leaves(random: &mut Random, count: usize) -> Vec<Subtree> {
     (0..count)
         .map(|_| {
             key += 1 + random.below(5);
-            Subtree::leaf(key, &random.bytes(20))
+            Subtree::leaf(&mut H, key, &random.bytes(20))
         })
         .collect()
 }
@@ -28,11 +29,11 @@ fn forest_equals_split_after_every_leaf() {
     for letter in [Letter::N, Letter::P] {
         let all = leaves(&mut random, 300);
         let mut forest = Forest::new(letter);
-        assert_eq!(forest.close(), None);
+        assert_eq!(forest.close(&mut H), None);
         for count in 1..=all.len() {
-            forest.append(all[count - 1]);
-            let closed = forest.close().unwrap();
-            assert_eq!(closed, tree(letter, &all[..count]), "{count}");
+            forest.append(&mut H, all[count - 1]);
+            let closed = forest.close(&mut H).unwrap();
+            assert_eq!(closed, tree(&mut H, letter, &all[..count]), "{count}");
             assert_eq!((closed.least, closed.greatest), (all[0].least, all[count - 1].greatest));
         }
     }
@@ -42,12 +43,12 @@ fn forest_equals_split_after_every_leaf() {
 fn shapes() {
     let all = leaves(&mut Random::new(9), 5);
     let [a, b, c, d, e] = all[..] else { unreachable!() };
-    let n = |left: &Subtree, right: &Subtree| join(Letter::N, left, right);
-    assert_eq!(tree(Letter::N, &[a]), a);
-    assert_eq!(tree(Letter::N, &[a, b, c]), n(&n(&a, &b), &c));
-    assert_eq!(tree(Letter::N, &[a, b, c, d, e]), n(&n(&n(&a, &b), &n(&c, &d)), &e));
-    assert_ne!(tree(Letter::N, &[a, b]), tree(Letter::P, &[a, b]));
-    assert_ne!(tree(Letter::N, &[a, b]), tree(Letter::N, &[b, a]));
+    let n = |left: &Subtree, right: &Subtree| join(&mut H, Letter::N, left, right);
+    assert_eq!(tree(&mut H, Letter::N, &[a]), a);
+    assert_eq!(tree(&mut H, Letter::N, &[a, b, c]), n(&n(&a, &b), &c));
+    assert_eq!(tree(&mut H, Letter::N, &[a, b, c, d, e]), n(&n(&n(&a, &b), &n(&c, &d)), &e));
+    assert_ne!(tree(&mut H, Letter::N, &[a, b]), tree(&mut H, Letter::P, &[a, b]));
+    assert_ne!(tree(&mut H, Letter::N, &[a, b]), tree(&mut H, Letter::N, &[b, a]));
     let string = node_string(Letter::P, &a, &b);
     assert_eq!((string[0], string.len()), (b'P', 97));
     assert_eq!((Subtree::at(&string, 1), Subtree::at(&string, 49)), (a, b));

@@ -1,0 +1,97 @@
+//! False answers that pass under a weak hash, and the two strings of one hash that each of them shows.
+
+use reference::check::check_by;
+use reference::clash::{building, checking, find};
+use reference::hash::Keeping;
+use reference::host::Host;
+use reference::random::Random;
+use reference::sample::log_k;
+use reference::sha256::{sha256, Digest};
+use reference::{Question, WORK};
+
+/// 12 bits of SHA-256: a changed string has its old hash once in 4,096 times.
+fn weak(string: &[u8]) -> Digest {
+    let mut digest = [0; 32];
+    digest[..2].copy_from_slice(&sha256(string)[..2]);
+    digest[1] &= 0xf0;
+    digest
+}
+
+fn keeping() -> Keeping {
+    Keeping::new(weak)
+}
+
+fn accepted(question: &Question, commitment: &Digest, answer: &[u8]) -> bool {
+    check_by(&mut keeping(), question, commitment, answer, 4 * WORK).is_ok()
+}
+
+/// The answer with one to three of its bytes changed, each to any value.
+fn changed(random: &mut Random, answer: &[u8]) -> Vec<u8> {
+    let mut changed = answer.to_vec();
+    for _ in 0..1 + random.index(3) {
+        changed[random.index(answer.len())] = random.byte();
+    }
+    changed
+}
+
+const QUESTIONS: [Question; 3] = [
+    Question { direction: 1, entity: 2, time: 35 },
+    Question { direction: 2, entity: 1, time: 39 },
+    Question { direction: 0, entity: 2, time: 20 },
+];
+
+#[test]
+fn every_false_answer_that_passes_shows_a_clash() {
+    let (mut random, records) = (Random::new(12), log_k());
+    let (commitment, built) = building(weak, &records);
+    let host = Host::by(&mut keeping(), &records);
+    let mut passed = 0;
+    for question in QUESTIONS {
+        let defined = host.answer_by(&mut keeping(), &question);
+        assert!(accepted(&question, &commitment, &defined));
+        assert_eq!(find(weak, &records, &question, &defined), None);
+        for _ in 0..400_000 {
+            let answer = changed(&mut random, &defined);
+            if answer != defined && accepted(&question, &commitment, &answer) {
+                passed += 1;
+                let clash = find(weak, &records, &question, &answer).expect("a clash");
+                assert!(clash.built != clash.checked && weak(&clash.built) == weak(&clash.checked));
+                assert!(built.contains(&clash.built));
+                assert!(checking(weak, &question, &commitment, &answer).contains(&clash.checked));
+            }
+        }
+    }
+    assert!(passed > 50, "{passed}");
+}
+
+#[test]
+fn what_is_hashed_in_building_and_checking_log_k() {
+    let records = log_k();
+    let (commitment, built) = building(sha256, &records);
+    let host = Host::new(&records);
+    assert_eq!(commitment, host.commitment());
+    let letters = |strings: &[Vec<u8>]| {
+        let mut letters: Vec<u8> = strings.iter().map(|string| string[0]).collect();
+        letters.sort();
+        String::from_utf8(letters).expect("letters")
+    };
+    // four versions and two entities: 4 I, 4 O, 4 L, a N for each entity, 2 G, a P and R
+    assert_eq!(letters(&built), "GGIIIILLLLNNOOOOPR");
+    for (question, expected) in QUESTIONS.iter().zip(["GIIILNPR", "GLNOOOPR", "GLNPR"]) {
+        let strings = checking(sha256, question, &commitment, &host.answer(question));
+        assert_eq!(letters(&strings), expected);
+        assert!(strings.iter().all(|string| built.contains(string)));
+    }
+}
+
+#[test]
+fn under_sha256_no_clash_is_found() {
+    let (mut random, records) = (Random::new(13), log_k());
+    let host = Host::new(&records);
+    for question in QUESTIONS {
+        let defined = host.answer(&question);
+        for _ in 0..200 {
+            assert_eq!(find(sha256, &records, &question, &changed(&mut random, &defined)), None);
+        }
+    }
+}
