@@ -26,6 +26,12 @@ pub fn listing(log: &[u8]) -> Result<Vec<u8>, Refusal> {
     Ok(out)
 }
 
+pub fn hash(message: &[u8]) -> [u8; 32] {
+    let mut out = [0; 32];
+    viewer::hash(message, &mut out).expect("32 bytes are enough");
+    out
+}
+
 pub fn commitment(log: &[u8]) -> Result<[u8; 32], Refusal> {
     let records = viewer::log(log)? as usize;
     let mut out = [0; 32];

@@ -7,6 +7,7 @@ use crate::calls::{self, Checked};
 use crate::demo;
 use crate::failure::{Done, Failure};
 use crate::files;
+use crate::forge;
 use crate::history::{self, History};
 use crate::mark;
 use crate::rows;
@@ -14,6 +15,7 @@ use crate::svg;
 use crate::textlog;
 
 pub struct Command {
+    /// One word, or two of which the second is an option.
     pub name: &'static str,
     /// The words that have to follow the name.
     pub words: &'static str,
@@ -30,6 +32,19 @@ impl Command {
         let parts = ["bozhtagul", self.name, self.words, self.shown];
         parts.into_iter().filter(|part| !part.is_empty()).collect::<Vec<_>>().join(" ")
     }
+
+    /// What follows the command's name, if the words begin with it.
+    fn after_name<'a>(&self, words: &'a [String]) -> Option<&'a [String]> {
+        let name: Vec<&str> = self.name.split(' ').collect();
+        let (first, rest) = words.split_at_checked(name.len())?;
+        (first == name).then_some(rest)
+    }
+}
+
+/// The command that some words call, the one with the longest name, and what follows its name.
+pub fn called(words: &[String]) -> Option<(&'static Command, &[String])> {
+    let fitting = ALL.iter().filter_map(|command| Some((command, command.after_name(words)?)));
+    fitting.min_by_key(|(_, rest)| rest.len())
 }
 
 pub const ALL: &[Command] = &[
@@ -115,6 +130,18 @@ the questions; --keep writes the log of the first answer that was not accepted. 
 ",
         run: mark::run,
     },
+    Command {
+        name: "mark --forge",
+        words: "ANSWER LOG DIRECTION ENTITY TIME",
+        options: &[],
+        shown: "",
+        about: "whether a false answer passed the check, and then two different strings with one SHA-256 value",
+        details: "\
+The answer is checked against the log's commitment. If it is accepted and is not the true answer, two strings are printed in hex: one
+hashed in building the commitment and one in the check. The status is 0 if a false answer passed, and 1 if it was refused or is true.
+",
+        run: forge::run,
+    },
 ];
 
 fn log(words: &Words) -> Done {
@@ -163,7 +190,7 @@ fn answer(words: &Words) -> Done {
 }
 
 /// A log that a call refused.
-fn refused_log(name: &str, refusal: &Refusal) -> Failure {
+pub fn refused_log(name: &str, refusal: &Refusal) -> Failure {
     Failure::Log(format!("{}: {}", files::input_name(name), rows::said(refusal)))
 }
 

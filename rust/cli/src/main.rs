@@ -7,6 +7,7 @@ mod commands;
 mod demo;
 mod failure;
 mod files;
+mod forge;
 mod help;
 mod history;
 mod host;
@@ -27,13 +28,13 @@ fn main() -> ExitCode {
 
 /// Finds the command by its name and runs it.
 fn run(words: &[String]) -> failure::Done {
-    let (name, rest) = match words.split_first() {
+    let name = match words.first() {
         None => return Err(failure::Failure::Use(help::all())),
-        Some((name, _)) if args::asks_help(name) || name == "help" => return files::write("-", help::all().as_bytes()),
-        Some(found) => found,
+        Some(name) if args::asks_help(name) || name == "help" => return files::write("-", help::all().as_bytes()),
+        Some(name) => name,
     };
-    let command = commands::ALL.iter().find(|command| command.name == name);
-    let command = command.ok_or_else(|| failure::Failure::Use(format!("there is no command '{name}': see bozhtagul --help")))?;
+    let command = commands::called(words);
+    let (command, rest) = command.ok_or_else(|| failure::Failure::Use(format!("there is no command '{name}': see bozhtagul --help")))?;
     match args::read(command, rest)? {
         None => files::write("-", help::of(command).as_bytes()),
         Some(words) => (command.run)(&words),

@@ -176,9 +176,9 @@ fn wrong_words_are_errors_of_use() {
 #[test]
 fn help_is_a_success() {
     let all = String::from_utf8(run(&["--help"]).good()).unwrap();
-    for name in ["demo", "log", "list", "commit", "answer", "check", "show"] {
+    for name in ["demo", "log", "list", "commit", "answer", "check", "show", "mark", "mark --forge"] {
         assert!(all.contains(&format!("bozhtagul {name}")), "{name}");
-        let own = String::from_utf8(run(&[name, "--help"]).good()).unwrap();
+        let own = String::from_utf8(run(&[name.split(' ').collect(), vec!["--help"]].concat()).good()).unwrap();
         assert!(own.starts_with(&format!("usage: bozhtagul {name}")), "{own}");
     }
 }

@@ -11,7 +11,7 @@ use common::*;
 
 const SCRIPT: &str = include_str!("../../../bozhtagul");
 
-const SOURCES: [&str; 11] = [
+const SOURCES: [&str; 13] = [
     "crates/fields/src/lib.rt",
     "crates/bozhtagul/src/lib.rt",
     "crates/other/src/lib.rt",
@@ -22,6 +22,8 @@ const SOURCES: [&str; 11] = [
     "rust/viewer/Cargo.toml",
     "rust/viewer/build.rs",
     "rust/viewer/src/lib.rs",
+    "rust/reference/Cargo.toml",
+    "rust/reference/src/lib.rs",
     "crates.txt",
 ];
 
@@ -31,6 +33,7 @@ const PROGRAM: &str = "target/cargo/release/bozhtagul";
 const RT: &str = "#!/bin/sh
 echo \"$@\" >>rt.calls
 [ ! -e rt.fails ] || { echo 'rt: fields NOT PROVED (exit 1, 2 s)' >&2; exit 1; }
+[ ! -e rt.slow ] || sleep 0.5
 echo 'rt: fields proved (1 s)' >&2
 echo logic=proved
 [ -e rt.idle ] || { mkdir -p target/staticlib && echo library >target/staticlib/libbozhtagul.a; }
@@ -119,6 +122,15 @@ fn the_first_use_builds_both_and_says_how_far_it_is() {
 }
 
 #[test]
+fn two_that_start_together_build_once() {
+    let tree = Tree::new("together");
+    tree.put("rt.slow", "");
+    let [one, two] = std::thread::scope(|scope| [scope.spawn(|| tree.said()), scope.spawn(|| tree.said())].map(|run| run.join().unwrap()));
+    assert_eq!(tree.0.read("rt.calls"), b"staticlib bozhtagul\n");
+    assert!(one.is_empty() != two.is_empty(), "{one}, {two}");
+}
+
+#[test]
 fn a_newer_crate_builds_the_library_and_the_program_again() {
     for source in ["crates/fields/src/lib.rt", "crates/bozhtagul/src/lib.rt", "crates.txt"] {
         let tree = built("newer crate");
@@ -141,7 +153,7 @@ fn a_library_that_rt_leaves_as_it_is_counts_as_built() {
 
 #[test]
 fn a_newer_program_source_builds_the_program_alone() {
-    for source in ["rust/cli/src/main.rs", "rust/viewer/src/lib.rs", "rust/Cargo.lock"] {
+    for source in ["rust/cli/src/main.rs", "rust/viewer/src/lib.rs", "rust/reference/src/lib.rs", "rust/Cargo.lock"] {
         let tree = built("newer program");
         tree.set_age(source, 10);
         assert_eq!(tree.said(), "bozhtagul: building the program\nnoise\n");

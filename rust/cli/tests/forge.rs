@@ -1,0 +1,69 @@
+//! Part two of the practical: false answers handed in, and what is said of them.
+
+mod common;
+
+use common::*;
+use reference::random::Random;
+
+/// Log K in a file, and what is said of an answer handed in for 2 at 35, backward.
+fn forge(name: &str, answer: &[u8]) -> Ran {
+    let folder = Folder::new(&format!("forge_{name}"));
+    let log = folder.file("log", &Logged::k().log);
+    run(&["mark", "--forge", &folder.file("answer", answer), &log, "backward", "2", "35"])
+}
+
+fn assert_not_passed(ran: &Ran, said: &str) {
+    assert_eq!((ran.status, ran.text(), ran.err.as_str()), (1, format!("{said}\n").as_str(), ""));
+}
+
+#[test]
+fn an_altered_answer_did_not_pass() {
+    let mut answer = Logged::k().answer(1, 2, 35);
+    answer[437] = 8;
+    assert_not_passed(&forge("altered", &answer), "not passed: refused 24 at 424: its path digest differs from L");
+    assert_not_passed(&forge("empty", b""), "not passed: refused 15 at 0: answer ends inside or before a string, trace header or record");
+}
+
+#[test]
+fn the_true_answer_is_not_false() {
+    assert_not_passed(&forge("true", &Logged::k().answer(1, 2, 35)), "not false: this is the true answer");
+}
+
+#[test]
+fn the_true_answer_to_another_question_did_not_pass() {
+    let said = "not passed: refused 16 at 393: letter not one due";
+    assert_not_passed(&forge("other", &Logged::k().answer(2, 2, 35)), said);
+}
+
+#[test]
+fn no_altered_byte_passes() {
+    let (good, mut random) = (Logged::k().answer(1, 2, 35), Random::new(3));
+    for place in (0..good.len()).step_by(13) {
+        let mut answer = good.clone();
+        answer[place] ^= 1 + random.below(255) as u8;
+        let ran = forge("byte", &answer);
+        assert!(ran.status == 1 && ran.text().starts_with("not passed: refused "), "{place}: {ran:?}");
+    }
+}
+
+#[test]
+fn the_log_has_to_be_there_and_sound() {
+    let folder = Folder::new("forge_log");
+    let answer = folder.file("answer", b"");
+    let cut = folder.file("cut", &Logged::k().log[..61]);
+    let ran = run(&["mark", "--forge", &answer, &cut, "only", "1", "10"]);
+    assert_eq!((ran.status, ran.text()), (1, ""));
+    assert!(ran.err.contains("cut: refused 4 at 44: record cut short"), "{}", ran.err);
+    for (log, said) in [(folder.path("none"), "none: No such file"), ("-".to_string(), "standard input can be read only once")] {
+        let ran = run(&["mark", "--forge", if log == "-" { "-" } else { &answer }, &log, "only", "1", "10"]);
+        assert_eq!((ran.status, ran.text()), (2, ""));
+        assert!(ran.err.contains(said), "{}", ran.err);
+    }
+}
+
+#[test]
+fn all_five_words_have_to_be_given() {
+    let ran = run(&["mark", "--forge", "a"]);
+    assert_eq!(ran.status, 2);
+    assert!(ran.err.contains("mark --forge takes 5 words, 1 were given"), "{}", ran.err);
+}
