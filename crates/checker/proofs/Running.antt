@@ -24,7 +24,8 @@ use Rattle.graph.proofs.Nodes.{length-nodes}
 use Rattle.proof_reader.specs.declared.Proof.{Proof}
 use Rattle.proof_reader.specs.declared.Proof.the-variants.{NoEntity as ToNoEntity, NotYet as ToNotYet, Found as ToLeaf, Refused as Unread}
 use Rattle.proof_reader.specs.Walks.{Gives, ProofIs}
-use Rattle.proof_reader.proofs.Ends.{no-entity-is, not-yet-is, found-is, refused-is, seen, run-seen, end-verdict}
+use Rattle.model.proofs.CheckSteps.{without-opened}
+use Rattle.proof_reader.proofs.Ends.{no-entity-is, not-yet-is, found-is, refused-is, run-without, end-verdict}
 use Rattle.trace_reader.specs.declared.Trace.{Trace}
 use Rattle.trace_reader.specs.declared.Trace.the-variants.{Read, Refused as TraceRefused}
 use Rattle.trace_reader.specs.Records.{TraceIs, trace-read, trace-refused}
@@ -41,13 +42,13 @@ use Rattle.checker.specs.Runs.{checkingOf, boundsOf, RunIs, bareRun, lea
 abbrev bounds : ℕ → ℕ → Bounds
 bounds a b = record { start = a; length = b }
 
-bounds-seen : (m : Result Accepted) → boundsOf (seen m) ≡ boundsOf m
+bounds-without : (m : Result Accepted) → boundsOf (without-opened m) ≡ boundsOf m
 unfolding boundsOf _>>=_
-bounds-seen (ok a) = refl
-bounds-seen (refuse n p) = refl
+bounds-without (ok a) = refl
+bounds-without (refuse n p) = refl
 
-same-bounds : (m n : Result Accepted) → seen m ≡ seen n → boundsOf m ≡ boundsOf n
-same-bounds m n e = sym (bounds-seen m) ∙ ap boundsOf e ∙ bounds-seen n
+same-bounds : (m n : Result Accepted) → without-opened m ≡ without-opened n → boundsOf m ≡ boundsOf n
+same-bounds m n e = sym (bounds-without m) ∙ ap boundsOf e ∙ bounds-without n
 
 -- ---- runs without records
 
@@ -257,7 +258,7 @@ module _ (direction s t : ℕ) (few : direction ≤ 2) (commitment answer : Byte
     at-end e at g i =
         record {
           verdict-is = i .verdict-is ∙ ap checkingOf (sym (end-verdict answer m e at g (k .q .part) size) ∙ sym (ap verdict-of by-proof));
-          bounds-are = i .bounds-are ∙ sym (same-bounds _ _ (run-seen answer m e at g (k .q .part) size)) ∙ sym (ap boundsOf by-proof);
+          bounds-are = i .bounds-are ∙ sym (same-bounds _ _ (run-without answer m e at g (k .q .part) size)) ∙ sym (ap boundsOf by-proof);
           inside = i .inside;
         }
 

@@ -112,26 +112,33 @@ records-step way n ns ps pos x = refl
 abbrev pub bare : CheckedProof → CheckedProof
 bare r = record { end = r .end; opened = []; pos = r .pos; rest = r .rest }
 
--- a string opened before does not change it
-pub bare-opening : (m : Result CheckedProof) (s : Bytes) → ((m >>= λ r. ok (opening s r)) >>= λ r. ok (bare r)) ≡ (m >>= λ r. ok (bare r))
+-- an accepted check without them
+abbrev pub unopened : Accepted → Accepted
+unopened a = record { verdict = a .verdict; opened = []; records = a .records; records-start = a .records-start; records-length = a .records-length }
+
+abbrev pub without-opened : Result Accepted → Result Accepted
+without-opened m = m >>= λ a. ok (unopened a)
+
+same-without : {A : Type 0} (m : Result A) (f g : A → Result Accepted) → ((a : A) → without-opened (f a) ≡ without-opened (g a))
+    → without-opened (m >>= f) ≡ without-opened (m >>= g)
 unfolding _>>=_
-bare-opening (ok r) s = refl
-bare-opening (refuse n p) s = refl
+same-without (ok a) f g h = h a
+same-without (refuse n p) f g h = refl
 
-verdict-same : {A : Type 0} (m : Result A) (f g : A → Result Accepted) → ((a : A) → verdict-of (f a) ≡ verdict-of (g a)) → verdict-of (m >>= f) ≡ verdict-of (m >>= g)
+here-without : (v : Verdict) (r : CheckedProof) → without-opened (end-here v r) ≡ without-opened (end-here v (bare r))
+unfolding end-here _>>=_
+here-without v r = same-without (need (eqb (length (r .rest)) 0) 18 (r .pos)) _ _ (λ _. refl)
+
+-- what follows a proof comes from it alone
+pub end-without : (p : Part) (work : ℕ) (r : CheckedProof) (e : SearchEnd Leaf) → without-opened (check-end p work r e) ≡ without-opened (check-end p work (bare r) e)
+unfolding check-end with-trace _>>=_
+end-without p work r SearchEnd.no-entity = here-without Verdict.no-entity r
+end-without p work r SearchEnd.not-yet = here-without Verdict.not-yet r
+end-without version-only work r (SearchEnd.found l) = here-without (Verdict.found (l .time) 0) r
+end-without (trace-of way) work r (SearchEnd.found l) =
+    same-without (read-trace way work (r .pos) (r .rest)) _ _ (λ t. same-without (trace-rows way l t) _ _ (λ _. refl))
+
+pub verdict-without : (m : Result Accepted) → verdict-of (without-opened m) ≡ verdict-of m
 unfolding verdict-of _>>=_
-verdict-same (ok a) f g h = h a
-verdict-same (refuse n p) f g h = refl
-
-here-bare : (v : Verdict) (r : CheckedProof) → verdict-of (end-here v r) ≡ verdict-of (end-here v (bare r))
-unfolding end-here verdict-of _>>=_
-here-bare v r = verdict-same (need (eqb (length (r .rest)) 0) 18 (r .pos)) _ _ (λ _. refl)
-
--- the verdict comes from it alone
-pub verdict-bare : (p : Part) (work : ℕ) (r : CheckedProof) (e : SearchEnd Leaf) → verdict-of (check-end p work r e) ≡ verdict-of (check-end p work (bare r) e)
-unfolding check-end with-trace verdict-of _>>=_
-verdict-bare p work r SearchEnd.no-entity = here-bare Verdict.no-entity r
-verdict-bare p work r SearchEnd.not-yet = here-bare Verdict.not-yet r
-verdict-bare version-only work r (SearchEnd.found l) = here-bare (Verdict.found (l .time) 0) r
-verdict-bare (trace-of way) work r (SearchEnd.found l) =
-    verdict-same (read-trace way work (r .pos) (r .rest)) _ _ (λ t. verdict-same (trace-rows way l t) _ _ (λ _. refl))
+verdict-without (ok a) = refl
+verdict-without (refuse n p) = refl

@@ -5,7 +5,7 @@ use native.Mathlib.Omega.{arith}
 use mathlib.Core.Bool.{cond}
 use mathlib.Core.Option.{none}
 use mathlib.Core.List.{List, [], _∷_, _++_, map}
-use lib.ListN.{length, getD, length-append, set, take}
+use lib.ListN.{length, getD, length-append, set, take, drop}
 use lib.Dec.{eqb, leb, le→leb}
 use Rattle.fields.specs.Fields.{Octets, encode, decode, part, field, equal}
 use Rattle.fields.proofs.Numbers.{octets-encode, octets-append}
@@ -15,7 +15,7 @@ use Rattle.model.specs.Log.{Record, birth, flow, BIRTH, FLOW, record-lim
 use Rattle.model.specs.Graph.{InEdge, temporal, dependency, VersionNode, latest-from, latest, made, grow, graph}
 use Rattle.model.specs.Digest.{letter-I, letter-O, links-string, incoming-string, outgoing-string, incoming-string-of, outgoing-string-of, incoming-strings, outgoing-strings}
 use Rattle.model.specs.Accumulator.{letter-L, letter-N, letter-G, letter-P, letter-R, branch-string, parent, doubled-below, largest-power-below, halved, tree, subtree, string-of, leaf-string, VersionLeaf, group-string, root-string, entities, leaf-at, version-leaves, of-entity, group, entity-tree, root}
-use Rattle.model.specs.Question.{backward, forward, Part, version-only, trace-of, Question, question, SearchEnd, by-entity, by-time, open-tree, open-versions, open-entities, Verdict, count}
+use Rattle.model.specs.Question.{backward, forward, Part, version-only, trace-of, Question, question, SearchEnd, by-entity, by-time, open-tree, open-versions, open-entities, Opened, Verdict, count}
 use Rattle.model.specs.Trace.{letter-E, letter-V, letter-S, letter-T, letter-D, refers, referred, add-ancestors, ancestors, starts-in, add-descendants, descendants, trace-versions, position-in, edges-inside, node-inside, induced-subgraph, trace, one-edge-string, record-string-by, record-string, record-strings, trace-string, letter-B, letter-F}
 use Rattle.model.specs.Answer.{proof, trace-part, answer, log-header, log-commitment, log-answer}
 use Rattle.model.specs.LogRows.{parse, above-all, latest-time, ends-rows, next-record, records-by, records-from, log-within, read-log}
@@ -80,34 +80,46 @@ two-births-sound = record { octets = log-octets two-births; reads = refl }
 
 -- ---- a question's answer and its check
 
-module _ (log : Bytes) (rs : List Record) (l : SoundLog log rs) (direction : ℕ) (p : Part) (s t : ℕ) (known : question direction s t ≡ ok (asked p s t)) where
+module _ (rs : List Record) (p : Part) (s t : ℕ) where
+  abbrev the-proof : Opened
+  the-proof = proof (log-header rs) (graph rs) (asked p s t)
+
   abbrev the-end : SearchEnd VersionLeaf
   the-end = open-entities (asked p s t) (entity-tree (graph rs)) .end
 
+  abbrev the-trace : Bytes
+  the-trace = trace-part (graph rs) p the-end
+
+  abbrev room : ℕ → Result (Unit {0})
+  room work = enough (count (verdict-by (graph rs) p the-end)) work
+
+  abbrev the-accepted : Accepted
+  the-accepted = accepted-by (graph rs) p (reading the-proof 0 the-trace) the-end
+
+  abbrev the-size : ℕ
+  the-size = sum (map proof-width (letters-of (the-proof .opened))) + length the-trace
+
+module _ (log : Bytes) (rs : List Record) (l : SoundLog log rs) (direction : ℕ) (p : Part) (s t : ℕ) (known : question direction s t ≡ ok (asked p s t)) where
   abbrev the-run : ℕ → Result Accepted
   the-run work = run direction s t (log-commitment rs) (log-answer rs (asked p s t)) work
 
-  run-is : (work : ℕ) → the-run work
-      ≡ (enough (count (verdict-by (graph rs) p the-end)) work >>= λ _.
-      ok (accepted-by (graph rs) p (reading (proof (log-header rs) (graph rs) (asked p s t)) 0 (trace-part (graph rs) p the-end)) the-end))
+  run-is : (work : ℕ) → the-run work ≡ (room rs p s t work >>= λ _. ok (the-accepted rs p s t))
   unfolding run log-commitment log-answer log-header
   run-is work =
       bind-eq _ (λ q. run-under letter-R q (log-commitment rs) (log-answer rs (asked p s t)) work) (asked p s t) known
       ∙ answer-run (log-header rs) (graph rs) (well-formed log rs l) p s t work
 
-  pub run-accepts : (work : ℕ) → enough (count (verdict-by (graph rs) p the-end)) work ≡ ok tt
-      → the-run work ≡ ok (accepted-by (graph rs) p (reading (proof (log-header rs) (graph rs) (asked p s t)) 0 (trace-part (graph rs) p the-end)) the-end)
-  run-accepts work e = run-is work ∙ bind-eq (enough (count (verdict-by (graph rs) p the-end)) work) _ tt e
+  pub run-accepts : (work : ℕ) → room rs p s t work ≡ ok tt → the-run work ≡ ok (the-accepted rs p s t)
+  run-accepts work e = run-is work ∙ bind-eq (room rs p s t work) _ tt e
 
-  pub run-refuses : (work : ℕ) → enough (count (verdict-by (graph rs) p the-end)) work ≡ refuse 12 0 → the-run work ≡ refuse 12 0
-  run-refuses work e = run-is work ∙ bind-refused (enough (count (verdict-by (graph rs) p the-end)) work) _ 12 0 e
+  pub run-refuses : (work : ℕ) → room rs p s t work ≡ refuse 12 0 → the-run work ≡ refuse 12 0
+  run-refuses work e = run-is work ∙ bind-refused (room rs p s t work) _ 12 0 e
 
-  pub answer-length : length (log-answer rs (asked p s t))
-      ≡ sum (map proof-width (letters-of (proof (log-header rs) (graph rs) (asked p s t) .opened))) + length (trace-part (graph rs) p the-end)
+  pub answer-length : length (log-answer rs (asked p s t)) ≡ the-size rs p s t
   unfolding log-answer answer proof log-header
   answer-length =
-      length-append (joined (proof (log-header rs) (graph rs) (asked p s t) .opened)) (trace-part (graph rs) p the-end)
-      ∙ ap (λ (n : ℕ). n + length (trace-part (graph rs) p the-end)) (proof-length (log-header rs) (graph rs) (well-formed log rs l) header-letter p s t)
+      length-append (joined (the-proof rs p s t .opened)) (the-trace rs p s t)
+      ∙ ap (λ (n : ℕ). n + length (the-trace rs p s t)) (proof-length (log-header rs) (graph rs) (well-formed log rs l) header-letter p s t)
     where
       header-letter : log-header rs .letter ≡ letter-R
       header-letter = refl
@@ -130,6 +142,34 @@ pub record Traced (rs : List Record) (direction s t : ℕ) (letters : List ℕ) 
   pub the-hashed : letters-of (hashed-in-check (q .part) run-of) ≡ letters ++ hashed
   pub too-little : run direction s t (log-commitment rs) (log-answer rs q) 383 ≡ refuse 12 0
 
+module _ (log : Bytes) (rs : List Record) (l : SoundLog log rs) (direction : ℕ) (p : Part) (s t : ℕ) (known : question direction s t ≡ ok (asked p s t)) where
+  -- a case by what is computed of it
+  traced : {letters : List ℕ} {long : ℕ} {v : Verdict} {records : List VersionNode} {bytes : List Bytes} {hashed : List ℕ}
+      → letters-of (the-proof rs p s t .opened) ≡ letters → the-size rs p s t ≡ long
+      → room rs p s t 384 ≡ ok tt → room rs p s t 383 ≡ refuse 12 0
+      → the-accepted rs p s t .verdict ≡ v → the-accepted rs p s t .records ≡ records
+      → records-part (log-answer rs (asked p s t)) (ok (the-accepted rs p s t))
+      ≡ part (joined (the-proof rs p s t .opened) ++ the-trace rs p s t) (0 + length (joined (the-proof rs p s t .opened)) + 5) (length (the-trace rs p s t) - 5)
+      → drop 5 (the-trace rs p s t) ≡ joined bytes
+      → letters-of (hashed-in-check p (the-accepted rs p s t)) ≡ letters ++ hashed
+      → Traced rs direction s t letters long v records bytes hashed
+  traced a b c d e f g h i =
+      record {
+        q = asked p s t;
+        known = known;
+        the-letters = a;
+        the-length = answer-length log rs l direction p s t known ∙ b;
+        run-of = the-accepted rs p s t;
+        accepted = run-accepts log rs l direction p s t known 384 c;
+        the-verdict = e;
+        the-records = f;
+        the-part =
+            ap (records-part (log-answer rs (asked p s t))) (run-accepts log rs l direction p s t known 384 c)
+            ∙ g ∙ part-behind (joined (the-proof rs p s t .opened)) (the-trace rs p s t) 5 ∙ h;
+        the-hashed = i;
+        too-little = run-refuses log rs l direction p s t known 383 d;
+      }
+
 abbrev node : ℕ → ℕ → List InEdge → VersionNode
 node e t es = record { entity = e; time = t; in-edges = es }
 
@@ -150,24 +190,7 @@ backward-2-35-bytes =
 
 backward-2-35 : Traced K 1 2 35 found-letters 446 (Verdict.found 30 3) backward-2-35-records backward-2-35-bytes (letter-I ∷ letter-I ∷ letter-I ∷ [])
 unfolding computed log-answer answer records-part hashed-in-check trace-strings path-strings incoming-strings outgoing-strings incoming-string-of outgoing-string-of incoming-string outgoing-string links-string
-backward-2-35 =
-    let p = proof (log-header K) (graph K) (asked (trace-of backward) 2 35) in
-    let y = trace-part (graph K) (trace-of backward) (p .end) in
-    record {
-      q = asked (trace-of backward) 2 35;
-      known = refl;
-      the-letters = refl;
-      the-length = answer-length (log-bytes K) K K-sound 1 (trace-of backward) 2 35 refl ∙ refl;
-      run-of = _;
-      accepted = run-accepts (log-bytes K) K K-sound 1 (trace-of backward) 2 35 refl 384 refl;
-      the-verdict = refl;
-      the-records = refl;
-      the-part =
-          ap (records-part (log-answer K (asked (trace-of backward) 2 35))) (run-accepts (log-bytes K) K K-sound 1 (trace-of backward) 2 35 refl 384 refl)
-          ∙ part-behind (joined (p .opened)) y 5 ∙ refl;
-      the-hashed = refl;
-      too-little = run-refuses (log-bytes K) K K-sound 1 (trace-of backward) 2 35 refl 383 refl;
-    }
+backward-2-35 = traced (log-bytes K) K K-sound 1 (trace-of backward) 2 35 refl refl refl refl refl refl refl refl refl refl
 
 -- "1, 39, forward: S 1 10; D 2 30 kind 7, 0; V 1 40 kind 8, 0, 1. 451 bytes."
 abbrev forward-1-39-records : List VersionNode
@@ -182,24 +205,7 @@ forward-1-39-bytes =
 
 forward-1-39 : Traced K 2 1 39 found-letters 451 (Verdict.found 10 3) forward-1-39-records forward-1-39-bytes (letter-O ∷ letter-O ∷ letter-O ∷ [])
 unfolding computed log-answer answer records-part hashed-in-check trace-strings path-strings incoming-strings outgoing-strings incoming-string-of outgoing-string-of incoming-string outgoing-string links-string
-forward-1-39 =
-    let p = proof (log-header K) (graph K) (asked (trace-of forward) 1 39) in
-    let y = trace-part (graph K) (trace-of forward) (p .end) in
-    record {
-      q = asked (trace-of forward) 1 39;
-      known = refl;
-      the-letters = refl;
-      the-length = answer-length (log-bytes K) K K-sound 2 (trace-of forward) 1 39 refl ∙ refl;
-      run-of = _;
-      accepted = run-accepts (log-bytes K) K K-sound 2 (trace-of forward) 1 39 refl 384 refl;
-      the-verdict = refl;
-      the-records = refl;
-      the-part =
-          ap (records-part (log-answer K (asked (trace-of forward) 1 39))) (run-accepts (log-bytes K) K K-sound 2 (trace-of forward) 1 39 refl 384 refl)
-          ∙ part-behind (joined (p .opened)) y 5 ∙ refl;
-      the-hashed = refl;
-      too-little = run-refuses (log-bytes K) K K-sound 2 (trace-of forward) 1 39 refl 383 refl;
-    }
+forward-1-39 = traced (log-bytes K) K K-sound 2 (trace-of forward) 1 39 refl refl refl refl refl refl refl refl refl refl
 
 -- "2, 20, forward: S 2 20; T 2 30, 0; D 1 40 kind 8, 1. 446 bytes."
 abbrev forward-2-20-records : List VersionNode
@@ -214,24 +220,7 @@ forward-2-20-bytes =
 
 forward-2-20 : Traced K 2 2 20 found-letters 446 (Verdict.found 20 3) forward-2-20-records forward-2-20-bytes (letter-O ∷ letter-O ∷ letter-O ∷ [])
 unfolding computed log-answer answer records-part hashed-in-check trace-strings path-strings incoming-strings outgoing-strings incoming-string-of outgoing-string-of incoming-string outgoing-string links-string
-forward-2-20 =
-    let p = proof (log-header K) (graph K) (asked (trace-of forward) 2 20) in
-    let y = trace-part (graph K) (trace-of forward) (p .end) in
-    record {
-      q = asked (trace-of forward) 2 20;
-      known = refl;
-      the-letters = refl;
-      the-length = answer-length (log-bytes K) K K-sound 2 (trace-of forward) 2 20 refl ∙ refl;
-      run-of = _;
-      accepted = run-accepts (log-bytes K) K K-sound 2 (trace-of forward) 2 20 refl 384 refl;
-      the-verdict = refl;
-      the-records = refl;
-      the-part =
-          ap (records-part (log-answer K (asked (trace-of forward) 2 20))) (run-accepts (log-bytes K) K K-sound 2 (trace-of forward) 2 20 refl 384 refl)
-          ∙ part-behind (joined (p .opened)) y 5 ∙ refl;
-      the-hashed = refl;
-      too-little = run-refuses (log-bytes K) K K-sound 2 (trace-of forward) 2 20 refl 383 refl;
-    }
+forward-2-20 = traced (log-bytes K) K K-sound 2 (trace-of forward) 2 20 refl refl refl refl refl refl refl refl refl refl
 
 -- ---- cases without a trace, in all three directions
 
@@ -255,81 +244,47 @@ pub record Untraced (rs : List Record) (s t : ℕ) (letters : List ℕ) (long : 
 abbrev InAllDirections : List Record → ℕ → ℕ → List ℕ → ℕ → Verdict → Type 0
 InAllDirections rs s t letters long v = (direction : ℕ) (q : Question) → question direction s t ≡ ok q → Untraced rs s t letters long v direction q
 
+-- a case by what is computed of it
+untraced : (log : Bytes) (rs : List Record) (l : SoundLog log rs) (s t : ℕ) {letters : List ℕ} {long : ℕ} {v : Verdict}
+    → ((p : Part) → letters-of (the-proof rs p s t .opened) ≡ letters) → ((p : Part) → the-size rs p s t ≡ long)
+    → ((p : Part) → room rs p s t 0 ≡ ok tt)
+    → ((p : Part) → the-accepted rs p s t .verdict ≡ v) → ((p : Part) → the-accepted rs p s t .records ≡ [])
+    → InAllDirections rs s t letters long v
+untraced log rs l s t {letters} {long} {v} a b c d e direction q known = go (question-asked direction s t q known)
+  where
+    go : (p : Part) × (q ≡ asked p s t) → Untraced rs s t letters long v direction q
+    go r =
+        let p = r .0 in
+        let k = known ∙ ap (λ (z : Question). ok z) (r .1) in
+        subst (Untraced rs s t letters long v direction) (sym (r .1))
+        (record {
+          the-letters = a p;
+          the-length = answer-length log rs l direction p s t k ∙ b p;
+          run-of = the-accepted rs p s t;
+          accepted = run-accepts log rs l direction p s t k 0 (c p);
+          the-verdict = d p;
+          no-records = e p;
+        })
+
 -- "2, 19: not yet, 219 bytes."
 not-yet-2-19 : InAllDirections K 2 19 (letter-R ∷ letter-P ∷ letter-G ∷ []) 219 Verdict.not-yet
 unfolding computed
-not-yet-2-19 direction q known = go (question-asked direction 2 19 q known)
-  where
-    go : (p : Part) × (q ≡ asked p 2 19) → Untraced K 2 19 (letter-R ∷ letter-P ∷ letter-G ∷ []) 219 Verdict.not-yet direction q
-    go r =
-        let p = r .0 in
-        let e = known ∙ ap (λ (z : Question). ok z) (r .1) in
-        subst (Untraced K 2 19 (letter-R ∷ letter-P ∷ letter-G ∷ []) 219 Verdict.not-yet direction) (sym (r .1))
-        (record {
-          the-letters = refl;
-          the-length = answer-length (log-bytes K) K K-sound direction p 2 19 e ∙ refl;
-          run-of = _;
-          accepted = run-accepts (log-bytes K) K K-sound direction p 2 19 e 0 refl;
-          the-verdict = refl;
-          no-records = refl;
-        })
+not-yet-2-19 = untraced (log-bytes K) K K-sound 2 19 (λ p. refl) (λ p. refl) (λ p. refl) (λ p. refl) (λ p. refl)
 
 -- "3 and 0: no entity, 65 bytes."
 no-entity-3 : (t : ℕ) → InAllDirections K 3 t (letter-R ∷ []) 65 Verdict.no-entity
 unfolding computed
-no-entity-3 t direction q known = go (question-asked direction 3 t q known)
-  where
-    go : (p : Part) × (q ≡ asked p 3 t) → Untraced K 3 t (letter-R ∷ []) 65 Verdict.no-entity direction q
-    go r =
-        let p = r .0 in
-        let e = known ∙ ap (λ (z : Question). ok z) (r .1) in
-        subst (Untraced K 3 t (letter-R ∷ []) 65 Verdict.no-entity direction) (sym (r .1))
-        (record {
-          the-letters = refl;
-          the-length = answer-length (log-bytes K) K K-sound direction p 3 t e ∙ refl;
-          run-of = _;
-          accepted = run-accepts (log-bytes K) K K-sound direction p 3 t e 0 refl;
-          the-verdict = refl;
-          no-records = refl;
-        })
+no-entity-3 t = untraced (log-bytes K) K K-sound 3 t (λ p. refl) (λ p. refl) (λ p. refl) (λ p. refl) (λ p. refl)
 
 -- "3 and 0: no entity, 65 bytes."
 no-entity-0 : (t : ℕ) → InAllDirections K 0 t (letter-R ∷ []) 65 Verdict.no-entity
 unfolding computed
-no-entity-0 t direction q known = go (question-asked direction 0 t q known)
-  where
-    go : (p : Part) × (q ≡ asked p 0 t) → Untraced K 0 t (letter-R ∷ []) 65 Verdict.no-entity direction q
-    go r =
-        let p = r .0 in
-        let e = known ∙ ap (λ (z : Question). ok z) (r .1) in
-        subst (Untraced K 0 t (letter-R ∷ []) 65 Verdict.no-entity direction) (sym (r .1))
-        (record {
-          the-letters = refl;
-          the-length = answer-length (log-bytes K) K K-sound direction p 0 t e ∙ refl;
-          run-of = _;
-          accepted = run-accepts (log-bytes K) K K-sound direction p 0 t e 0 refl;
-          the-verdict = refl;
-          no-records = refl;
-        })
+no-entity-0 t = untraced (log-bytes K) K K-sound 0 t (λ p. refl) (λ p. refl) (λ p. refl) (λ p. refl) (λ p. refl)
 
 -- "Births 1 and 5 only, asked 3: R and P, 162 bytes."
 between-births : (t : ℕ) → InAllDirections two-births 3 t (letter-R ∷ letter-P ∷ []) 162 Verdict.no-entity
 unfolding computed
-between-births t direction q known = go (question-asked direction 3 t q known)
-  where
-    go : (p : Part) × (q ≡ asked p 3 t) → Untraced two-births 3 t (letter-R ∷ letter-P ∷ []) 162 Verdict.no-entity direction q
-    go r =
-        let p = r .0 in
-        let e = known ∙ ap (λ (z : Question). ok z) (r .1) in
-        subst (Untraced two-births 3 t (letter-R ∷ letter-P ∷ []) 162 Verdict.no-entity direction) (sym (r .1))
-        (record {
-          the-letters = refl;
-          the-length = answer-length (log-bytes two-births) two-births two-births-sound direction p 3 t e ∙ refl;
-          run-of = _;
-          accepted = run-accepts (log-bytes two-births) two-births two-births-sound direction p 3 t e 0 refl;
-          the-verdict = refl;
-          no-records = refl;
-        })
+between-births t = untraced (log-bytes two-births) two-births two-births-sound 3 t (λ p. refl) (λ p. refl) (λ p. refl) (λ p. refl) (λ p. refl)
 
 -- ---- logs that are turned away
 

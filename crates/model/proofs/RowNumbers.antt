@@ -4,13 +4,13 @@ use mathlib.Core.Bool.{Bool, true, false, cond}
 use mathlib.Core.List.{List}
 use Prim.Native.Nat.{ℕ, zero, suc, _+_, _<_}
 use lib.Dec.{eqb, lit<}
-use lib.ListN.{length, drop, getD}
+use lib.ListN.{length, drop}
 use Rattle.model.specs.Result.{Result, ok, refuse, _>>=_, need}
 use Rattle.model.specs.Numbers.{Bytes, EntityKey, TimeKey}
 use Rattle.model.specs.Graph.{VersionNode}
 use Rattle.model.specs.Accumulator.{Subtree, Layout, Leaf, branch-width}
-use Rattle.model.specs.Question.{Relation, Way, Part, version-only, trace-of, Question, question, SearchEnd, Descent}
-use Rattle.model.specs.CheckRows.{take-string, CheckedProof, stopped, opening, chosen, check-tree, check-versions, check-entities, check-proof, read-record, CheckedTrace, read-records, enough, read-trace, trace-rows, Accepted, end-here, with-trace, check-end, run-under, run}
+use Rattle.model.specs.Question.{Way, Part, version-only, trace-of, Question, question, SearchEnd, Descent}
+use Rattle.model.specs.CheckRows.{take-string, CheckedProof, stopped, opening, chosen, check-tree, check-versions, check-entities, check-proof, read-record, CheckedTrace, read-records, enough, read-trace, trace-rows, end-here, with-trace, check-end, run-under, run}
 
 -- a row's number is above 0
 pub data Numbered {A : Type 0} : Result A → Type 0 where

@@ -94,35 +94,28 @@ module _ (way : Way) (i : ℕ) (x : Bytes) (o : Octets x) where
         bytes = string-again letter-V (4 ∷ 8 ∷ 1 ∷ 4 ∷ 4 ∷ []) x o h e;
       }
 
+  one-edge-fine : (f : InEdge) → f .type < 256 ^ 1 → f .kind < 256 ^ 1 → Fine way i (record { entity = field 4 x 1; time = field 8 x 5; in-edges = f ∷ [] })
+  one-edge-fine f a b =
+      record {
+        entity-fits = field-below 4 x 1 o;
+        time-fits = field-below 8 x 5 o;
+        types-fit = among-one (λ (z : InEdge). z .type < 256 ^ 1) f a;
+        kinds-fit = among-one (λ (z : InEdge). z .kind < 256 ^ 1) f b;
+        types-rise = Up.more (λ f m. absurd (List·Memᴰ·not-nil m)) Up.none;
+        rooted = rooted-by way i (List·Memᴰ·head refl);
+      }
+
   again-D : 18 ≤ length x → getD x 0 0 ≡ letter-D → Again way i letter-D x
   unfolding shown-record shown-edges record-string record-string-by one-edge-string
   again-D h e =
       record {
-        fine = record {
-          entity-fits = field-below 4 x 1 o;
-          time-fits = field-below 8 x 5 o;
-          types-fit = among-one (λ (z : InEdge). z .type < 256 ^ 1) (dependency (field 1 x 13) (field 4 x 14)) (lit< tt);
-          kinds-fit = among-one (λ (z : InEdge). z .kind < 256 ^ 1) (dependency (field 1 x 13) (field 4 x 14)) (field-below 1 x 13 o);
-          types-rise = Up.more (λ f m. absurd (List·Memᴰ·not-nil m)) Up.none;
-          rooted = rooted-by way i (List·Memᴰ·head refl);
-        };
+        fine = one-edge-fine (dependency (field 1 x 13) (field 4 x 14)) (lit< tt) (field-below 1 x 13 o);
         bytes = string-again letter-D (4 ∷ 8 ∷ 1 ∷ 4 ∷ []) x o h e;
       }
 
   again-T : 17 ≤ length x → getD x 0 0 ≡ letter-T → Again way i letter-T x
   unfolding shown-record shown-edges record-string record-string-by one-edge-string
-  again-T h e =
-      record {
-        fine = record {
-          entity-fits = field-below 4 x 1 o;
-          time-fits = field-below 8 x 5 o;
-          types-fit = among-one (λ (z : InEdge). z .type < 256 ^ 1) (temporal (field 4 x 13)) (lit< tt);
-          kinds-fit = among-one (λ (z : InEdge). z .kind < 256 ^ 1) (temporal (field 4 x 13)) (lit< tt);
-          types-rise = Up.more (λ f m. absurd (List·Memᴰ·not-nil m)) Up.none;
-          rooted = rooted-by way i (List·Memᴰ·head refl);
-        };
-        bytes = string-again letter-T (4 ∷ 8 ∷ 4 ∷ []) x o h e;
-      }
+  again-T h e = record { fine = one-edge-fine (temporal (field 4 x 13)) (lit< tt) (lit< tt); bytes = string-again letter-T (4 ∷ 8 ∷ 4 ∷ []) x o h e }
 
   again-entry : 13 ≤ length x → getD x 0 0 ≡ entry-letter way → Rooted way i [] → Again way i (entry-letter way) x
   unfolding shown-record record-string record-string-by

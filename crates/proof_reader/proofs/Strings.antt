@@ -6,9 +6,8 @@ use native.Mathlib.Omega.{arith}
 use borrow.Author.Tests.{le-leb, lt-leb, eq-eqb, ne-eqb}
 use lib.Dec.{eqb, leb}
 use lib.ListN.{length, take, drop, getD, length-drop}
-use lib.Seq.{getD-drop}
 use Rattle.fields.specs.Fields.{part, field, equal}
-use Rattle.fields.proofs.Places.{part-all, part-take, field-take, part-drop, field-drop}
+use Rattle.fields.proofs.Places.{part-all, part-take, field-take, part-drop, field-drop, first-left, some-left}
 use Rattle.sha256.specs.Sha256.{sha256}
 use Rattle.model.specs.Numbers.{Bytes, H}
 use Rattle.model.specs.Result.{refuse, _>>=_, need}
@@ -28,23 +27,17 @@ module _ (answer : Bytes) (at letter width : ℕ) (due : Bytes) where
   no-byte e = cut 15 (simp (lt-leb 1 (length (drop at answer)) (omega (arith, length-drop at answer))))
 
   module _ (more : length answer - at ≡ 0 → ⊥) where
-    some-byte : leb 1 (length (drop at answer)) ≡ true
-    some-byte = le-leb 1 (length (drop at answer)) (omega (arith, length-drop at answer))
-
-    first-byte : getD (drop at answer) 0 0 ≡ getD answer at 0
-    first-byte = getD-drop at answer 0 0 ∙ ap (λ (n : ℕ). getD answer n 0) (let e : at + 0 ≡ at = omega arith in e)
-
     pub other-letter : (getD answer at 0 ≡ letter → ⊥) → Takes answer at letter width due (Cut 16)
     unfolding take-string need _>>=_
-    other-letter h = cut 16 (simp (some-byte, first-byte, ne-eqb (getD answer at 0) letter h))
+    other-letter h = cut 16 (simp (some-left at answer more, first-left at answer 0, ne-eqb (getD answer at 0) letter h))
 
     module _ (same : getD answer at 0 ≡ letter) where
       letter-due : eqb (getD (drop at answer) 0 0) letter ≡ true
-      letter-due = eq-eqb (getD (drop at answer) 0 0) letter (first-byte ∙ same)
+      letter-due = eq-eqb (getD (drop at answer) 0 0) letter (first-left at answer 0 ∙ same)
 
       pub too-short : length answer - at < width → Takes answer at letter width due (Cut 15)
       unfolding take-string need _>>=_
-      too-short h = cut 15 (simp (some-byte, letter-due, lt-leb width (length (drop at answer)) (omega (arith, length-drop at answer))))
+      too-short h = cut 15 (simp (some-left at answer more, letter-due, lt-leb width (length (drop at answer)) (omega (arith, length-drop at answer))))
 
       module _ (fits : width ≤ length answer - at) (d : Bytes) (hashed : d ≡ sha256 (take (at + width - at) (drop at answer))) (b : Bool) (compared : b ≡ equal (part d 0 32) due) where
         all-there : leb width (length (drop at answer)) ≡ true
@@ -62,11 +55,11 @@ module _ (answer : Bytes) (at letter width : ℕ) (due : Bytes) where
         pub string-passes : at ≤ length answer → b ≡ true → Takes answer at letter width due Taken
         unfolding take-string need _>>=_
         string-passes inside e =
-            taken (record { inside = omega arith; is = simp (some-byte, letter-due, all-there, test-is ∙ e) })
+            taken (record { inside = omega arith; is = simp (some-left at answer more, letter-due, all-there, test-is ∙ e) })
 
         pub other-digest : b ≡ false → Takes answer at letter width due (Cut 17)
         unfolding take-string need _>>=_
-        other-digest e = cut 17 (simp (some-byte, letter-due, all-there, test-is ∙ e))
+        other-digest e = cut 17 (simp (some-left at answer more, letter-due, all-there, test-is ∙ e))
 
 -- ---- the string of a known subtree
 

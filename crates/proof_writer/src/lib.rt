@@ -2,6 +2,7 @@
 use accumulator::EntityTree;
 use accumulator::Subtree;
 use accumulator::VersionTree;
+use graph::NO_SLOT;
 use log::EntityKey;
 use log::TimeKey;
 ghost use mathlib.Core.Path.{_≡_};
@@ -57,7 +58,7 @@ fn put_version_leaves(work: &mut [u8], entry: usize, n: usize) -> usize
 {
     let mut count: usize = 0;
     let mut i = entry;
-    while i < 65535 {
+    while i < NO_SLOT {
         let leaf = trees::leaf_of(work, i);
         put_row(work, count, leaf.0);
         count += 1;
@@ -228,7 +229,7 @@ fn count_versions(work: &[u8], entry: usize, n: usize, time: TimeKey) -> Version
     let mut l = Latest { before: 0, slot: 0 };
     let mut count: usize = 0;
     let mut i = entry;
-    while i < 65535 {
+    while i < NO_SLOT {
         l = with_version(work, i, time, l);
         count += 1;
         i = graph::get_next(work, i) as usize;

@@ -9,7 +9,7 @@ use lib.Dec.{eqb, leb}
 use lib.ListN.{length, getD, drop, length-drop}
 use lib.Seq.{drop-drop}
 use Rattle.fields.specs.Fields.{field}
-use Rattle.fields.proofs.Places.{field-drop}
+use Rattle.fields.proofs.Places.{field-drop, first-left, some-left}
 use Rattle.model.specs.Numbers.{Bytes}
 use Rattle.model.specs.Result.{Result, refuse, _>>=_, need}
 use Rattle.model.specs.Log.{record-limit}
@@ -22,7 +22,6 @@ use Rattle.trace_reader.specs.declared.Header.{Header}
 use Rattle.trace_reader.specs.declared.Header.the-variants.{Count, Refused as Unread, Short}
 use Rattle.trace_reader.specs.declared.Trace.the-variants.{Read as TraceRead, Refused as TraceRefused}
 use Rattle.trace_reader.specs.Records.{InTable, RecordsAre, in-table, turned, Counts, HeaderIs, counts, unread, short, TraceIs, trace-read, trace-refused}
-use Rattle.trace_reader.proofs.Passing.{some-byte, first-byte}
 use Rattle.trace_reader.proofs.Slotting.{absent-is}
 
 -- ---- the rows of the header
@@ -35,15 +34,15 @@ module _ (way : question.Way) (size : ℕ) (answer : Bytes) (at : ℕ) where
   module _ (more : length answer - at ≡ 0 → ⊥) (letter : ℕ) (due : letter ≡ trace-letter way) where
     pub other-trace : (getD answer at 0 ≡ letter → ⊥) → HeaderIs way size answer at (Unread 16)
     unfolding read-trace need _>>=_
-    other-trace h = unread 16 (simp (some-byte answer at more, (first-byte answer at), ne-eqb (getD answer at 0) (trace-letter way) (λ e. h (e ∙ sym due))))
+    other-trace h = unread 16 (simp (some-left at answer more, first-left at answer 0, ne-eqb (getD answer at 0) (trace-letter way) (λ e. h (e ∙ sym due))))
 
     module _ (same : getD answer at 0 ≡ letter) where
       letter-due : eqb (getD (drop at answer) 0 0) (trace-letter way) ≡ true
-      letter-due = eq-eqb (getD (drop at answer) 0 0) (trace-letter way) ((first-byte answer at) ∙ same ∙ due)
+      letter-due = eq-eqb (getD (drop at answer) 0 0) (trace-letter way) (first-left at answer 0 ∙ same ∙ due)
 
       pub header-cut : length answer - at < 5 → HeaderIs way size answer at (Unread 15)
       unfolding read-trace need _>>=_
-      header-cut h = unread 15 (simp (some-byte answer at more, letter-due, lt-leb 5 (length (drop at answer)) (omega (arith, length-drop at answer))))
+      header-cut h = unread 15 (simp (some-left at answer more, letter-due, lt-leb 5 (length (drop at answer)) (omega (arith, length-drop at answer))))
 
       module _ (fits : 5 ≤ length answer - at) (count : ℕ) (field-is : count ≡ field 4 answer (at + 1)) where
         all-there : leb 5 (length (drop at answer)) ≡ true
@@ -54,18 +53,18 @@ module _ (way : question.Way) (size : ℕ) (answer : Bytes) (at : ℕ) where
 
         pub no-record : count < 1 → HeaderIs way size answer at (Unread 19)
         unfolding read-trace need _>>=_
-        no-record h = unread 19 (simp (some-byte answer at more, letter-due, all-there, count-is, lt-leb 1 count h))
+        no-record h = unread 19 (simp (some-left at answer more, letter-due, all-there, count-is, lt-leb 1 count h))
 
         module _ (one : 1 ≤ count) where
           pub too-many : 65535 < count → HeaderIs way size answer at (Unread 19)
           unfolding read-trace need _>>=_
-          too-many h = unread 19 (simp (some-byte answer at more, letter-due, all-there, count-is, le-leb 1 count one, lt-leb count record-limit h))
+          too-many h = unread 19 (simp (some-left at answer more, letter-due, all-there, count-is, le-leb 1 count one, lt-leb count record-limit h))
 
           module _ (few : count ≤ 65535) where
             pub work-short : size < 128 * count → HeaderIs way size answer at Short
             unfolding read-trace need enough _>>=_
             work-short h =
-                short (simp (some-byte answer at more, letter-due, all-there, count-is, le-leb 1 count one, le-leb count record-limit few, lt-leb (128 * count) size h))
+                short (simp (some-left at answer more, letter-due, all-there, count-is, le-leb 1 count one, le-leb count record-limit few, lt-leb (128 * count) size h))
 
             pub header-passes : at ≤ length answer → 128 * count ≤ size → HeaderIs way size answer at (Count count)
             unfolding read-trace need enough _>>=_
@@ -73,7 +72,7 @@ module _ (way : question.Way) (size : ℕ) (answer : Bytes) (at : ℕ) where
                 counts count
                 (record {
                   is =
-                      simp (some-byte answer at more, letter-due, all-there, count-is, le-leb 1 count one, le-leb count record-limit few, le-leb (128 * count) size room)
+                      simp (some-left at answer more, letter-due, all-there, count-is, le-leb 1 count one, le-leb count record-limit few, le-leb (128 * count) size room)
                       (ap (read-records way count [] [] (at + 5)) (drop-drop 5 at answer));
                   inside = omega arith;
                   some-record = one;

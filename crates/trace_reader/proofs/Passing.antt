@@ -2,14 +2,12 @@
 use mathlib.Core.Path.{_≡_, refl, sym, ap, _∙_}
 use mathlib.Core.Bool.{Bool, true, false, cond, _&&_}
 use Prim.Native.Nat.{ℕ, _+_, _-_, _≤_, _<_}
-use native.Mathlib.Nat.{add-zero}
 use native.Mathlib.Omega.{arith}
 use borrow.Author.Tests.{le-leb, lt-leb, eq-eqb, ne-eqb}
 use lib.Dec.{ltb, leb}
 use lib.ListN.{length, getD, drop, length-drop}
-use lib.Seq.{getD-drop}
 use Rattle.fields.specs.Fields.{field}
-use Rattle.fields.proofs.Places.{field-drop}
+use Rattle.fields.proofs.Places.{field-drop, first-left, some-left}
 use Rattle.model.specs.Numbers.{Bytes, above}
 use Rattle.model.specs.Result.{_>>=_, need, ok, refuse}
 use Rattle.model.specs.Graph.{VersionNode}
@@ -18,15 +16,6 @@ use Rattle.model.specs.Question.{Way}
 use Rattle.model.specs.CheckRows.{due, shown-edges, shown-record, all-below, read-record}
 use Rattle.trace_reader.specs.declared.RecordRow.the-variants.{Read, Refused}
 use Rattle.trace_reader.specs.Records.{beforeOf, valuesRow, Reads, reads, refused}
-
--- ---- the first byte of what is left
-
-module _ (answer : Bytes) (at : ℕ) where
-  pub some-byte : (length answer - at ≡ 0 → ⊥) → leb 1 (length (drop at answer)) ≡ true
-  some-byte more = le-leb 1 (length (drop at answer)) (omega (arith, length-drop at answer))
-
-  pub first-byte : getD (drop at answer) 0 0 ≡ getD answer at 0
-  first-byte = getD-drop at answer 0 0 ∙ ap (λ (n : ℕ). getD answer n 0) (add-zero at)
 
 -- ---- row 20
 
@@ -119,14 +108,14 @@ module _ (way : Way) (i last : ℕ) (answer : Bytes) (at : ℕ) where
     module _ (b : Bool) (test : b ≡ due way i (getD answer at 0)) where
       pub not-due : b ≡ false → Reads way i last answer at (Refused 16)
       unfolding read-record need _>>=_
-      not-due e = refused 16 (simp (some-byte answer at more, (first-byte answer at), sym test ∙ e))
+      not-due e = refused 16 (simp (some-left at answer more, first-left at answer 0, sym test ∙ e))
 
       module _ (is-due : b ≡ true) (w : ℕ) (width : w ≡ letter-width (getD answer at 0)) where
         pub too-short : length answer - at < w → Reads way i last answer at (Refused 15)
         unfolding read-record need _>>=_
         too-short h =
             refused 15
-            (simp (some-byte answer at more, (first-byte answer at), sym test ∙ is-due, lt-leb (letter-width (getD answer at 0)) (length (drop at answer)) (omega (arith, length-drop at answer))))
+            (simp (some-left at answer more, first-left at answer 0, sym test ∙ is-due, lt-leb (letter-width (getD answer at 0)) (length (drop at answer)) (omega (arith, length-drop at answer))))
 
         module _ (fits : w ≤ length answer - at) (number : ℕ) (row : number ≡ valuesRow i last (shown-record (getD answer at 0) (drop at answer))) where
           n : VersionNode
@@ -136,7 +125,7 @@ module _ (way : Way) (i last : ℕ) (answer : Bytes) (at : ℕ) where
               ≡ (need (all-below i (n .in-edges)) 20 at >>= λ _. need (above (beforeOf i last) (n .time)) 21 at >>= λ _. ok n)
           unfolding read-record need _>>=_ n
           rows-left =
-              simp (some-byte answer at more, (first-byte answer at), sym test ∙ is-due, le-leb (letter-width (getD answer at 0)) (length (drop at answer)) (omega (arith, length-drop at answer)))
+              simp (some-left at answer more, first-left at answer 0, sym test ∙ is-due, le-leb (letter-width (getD answer at 0)) (length (drop at answer)) (omega (arith, length-drop at answer)))
 
           pub record-passes : at ≤ length answer → number ≡ 0 → Reads way i last answer at (Read (getD answer at 0))
           unfolding valuesRow shown-record n
@@ -144,7 +133,7 @@ module _ (way : Way) (i last : ℕ) (answer : Bytes) (at : ℕ) where
               reads _
               (record {
                 is = rows-left ∙ after-rows (all-below i (n .in-edges)) (above (beforeOf i last) (n .time)) at n (sym row ∙ e);
-                letter-is = sym (first-byte answer at);
+                letter-is = sym (first-left at answer 0);
                 inside = omega arith;
                 below = all-low (all-below i (n .in-edges)) (above (beforeOf i last) (n .time)) (sym row ∙ e);
               })

@@ -3,6 +3,7 @@
 use fields::get_u32;
 use fields::get_u64;
 use fields::put_u32;
+use graph::ABSENT;
 use graph::Way;
 use graph::put_node;
 use graph::trace_letter;
@@ -207,15 +208,15 @@ fn put_shown(answer: &[u8], at: usize, letter: u8, work: &mut [u8], i: usize)
     }
     if letter == 0x44 {
         let source = start_at(answer, at + 14);
-        put_version(answer, at, work, i, 65535, source, answer[at + 13]);
+        put_version(answer, at, work, i, ABSENT, source, answer[at + 13]);
         return;
     }
     if letter == 0x54 {
         let previous = start_at(answer, at + 13);
-        put_version(answer, at, work, i, previous, 65535, 0);
+        put_version(answer, at, work, i, previous, ABSENT, 0);
         return;
     }
-    put_version(answer, at, work, i, 65535, 65535, 0);
+    put_version(answer, at, work, i, ABSENT, ABSENT, 0);
 }
 
 // Puts what a record shows into slot i, and the record's place in the trace into a free column.
