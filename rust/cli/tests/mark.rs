@@ -19,9 +19,13 @@ fn mark(name: &str, script: &str, words: &[&str]) -> (Folder, Ran) {
     (folder, ran)
 }
 
-/// The program of `examples/participant.rs`. `cargo test -p cli` builds it beside the command line; with `--test` it is not built.
+/// The program of `examples/participant.rs`. `cargo test -p cli` builds it beside the command line; with `--test mark` cargo does not,
+/// and then one that is missing or older than its source must not pass.
 fn participant() -> String {
     let path = Path::new(env!("CARGO_BIN_EXE_bozhtagul")).with_file_name("examples").join("participant");
+    let source = Path::new(env!("CARGO_MANIFEST_DIR")).join("examples").join("participant.rs");
+    let written = |path: &Path| fs::metadata(path).and_then(|data| data.modified()).ok();
+    assert!(written(&path) >= written(&source), "{} is not built from its source", path.display());
     path.to_str().expect("UTF-8").to_string()
 }
 
@@ -64,11 +68,10 @@ fn a_program_written_from_the_handout_alone_has_full_marks() {
 #[test]
 fn its_answers_on_log_k_are_the_proved_ones() {
     let log = Logged::k().log;
-    let questions = ["0", "1", "2"].into_iter().flat_map(|direction| {
-        let entities = ["0", "1", "2", "3", "4294967295"].into_iter();
-        entities.flat_map(move |entity| ["0", "10", "19", "20", "35", "39", "40", "99"].map(|time| [direction, entity, time]))
-    });
-    for question in questions {
+    let entities = ["0", "1", "2", "3", "4294967295"];
+    let times = ["0", "10", "19", "20", "35", "39", "40", "99", "18446744073709551615"];
+    let of_entity = |entity| times.into_iter().flat_map(move |time| ["0", "1", "2"].map(|direction| [direction, entity, time]));
+    for question in entities.into_iter().flat_map(of_entity) {
         let proved = run_on(&log, &[&["answer", "-"], &question[..]].concat()).good();
         assert_eq!(run_with(Command::new(participant()).args(question), &log).good(), proved, "{question:?}");
     }
