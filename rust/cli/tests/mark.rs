@@ -4,6 +4,8 @@ mod common;
 
 use std::fs;
 use std::os::unix::fs::PermissionsExt;
+use std::path::Path;
+use std::process::Command;
 
 use common::*;
 
@@ -15,6 +17,16 @@ fn mark(name: &str, script: &str, words: &[&str]) -> (Folder, Ran) {
     fs::set_permissions(&host, fs::Permissions::from_mode(0o755)).unwrap();
     let ran = run(&[&["mark", &host], words].concat());
     (folder, ran)
+}
+
+/// The program of `examples/participant.rs`. `cargo test -p cli` builds it beside the command line; with `--test mark` cargo does not,
+/// and then one that is missing or older than its source must not pass.
+fn participant() -> String {
+    let path = Path::new(env!("CARGO_BIN_EXE_bozhtagul")).with_file_name("examples").join("participant");
+    let source = Path::new(env!("CARGO_MANIFEST_DIR")).join("examples").join("participant.rs");
+    let written = |path: &Path| fs::metadata(path).and_then(|data| data.modified()).ok();
+    assert!(written(&path) >= written(&source), "{} is not built from its source", path.display());
+    path.to_str().expect("UTF-8").to_string()
 }
 
 /// The table's lines as words, without the seconds.
@@ -43,6 +55,26 @@ fn true_answers_are_all_accepted() {
     assert_eq!(sizes, ["1", "2", "4", "16", "64", "256", "1024", "4096", "all"]);
     assert!(table(&ran)[..8].iter().all(|line| line[1..] == ["12", "12", "0", "none"]));
     assert_eq!(all(&ran), "all 96 96 0 none");
+}
+
+#[test]
+fn a_program_written_from_the_handout_alone_has_full_marks() {
+    for seed in ["1", "2", "3"] {
+        let ran = run(&["mark", &participant(), "--seed", seed]);
+        assert_eq!((all(&ran).as_str(), ran.err.as_str(), ran.status), ("all 96 96 0 none", "", 0), "seed {seed}: {}", ran.text());
+    }
+}
+
+#[test]
+fn its_answers_on_log_k_are_the_proved_ones() {
+    let log = Logged::k().log;
+    let entities = ["0", "1", "2", "3", "4294967295"];
+    let times = ["0", "10", "19", "20", "35", "39", "40", "99", "18446744073709551615"];
+    let of_entity = |entity| times.into_iter().flat_map(move |time| ["0", "1", "2"].map(|direction| [direction, entity, time]));
+    for question in entities.into_iter().flat_map(of_entity) {
+        let proved = run_on(&log, &[&["answer", "-"], &question[..]].concat()).good();
+        assert_eq!(run_with(Command::new(participant()).args(question), &log).good(), proved, "{question:?}");
+    }
 }
 
 #[test]
