@@ -72,3 +72,14 @@ fn the_text_and_the_commands() {
     let answer = folder.file("k.answer", &table("answer"));
     assert_eq!(run(&["check", block("commitment")[0], "backward", "2", "35", &answer]).good(), b"found 2 at 30, 3 records\n");
 }
+
+#[test]
+fn the_attempt_of_part_two() {
+    let folder = Folder::new("handout_forge");
+    let mut answer = table("answer");
+    assert_eq!(answer[437], 7);
+    answer[437] = 8;
+    let (answer, log) = (folder.file("answer", &answer), folder.file("log", &table("log")));
+    let ran = run(&["mark", "--forge", &answer, &log, "backward", "2", "35"]);
+    assert_eq!((ran.status, ran.text().lines().collect::<Vec<_>>()), (1, block("forge")));
+}

@@ -3,11 +3,10 @@
 mod common;
 
 use common::*;
-use reference::forge::{d, e, s, t, v};
 use reference::host::Host;
 use reference::log::Record;
 use reference::random::{self, Random};
-use reference::sample::{birth, births, in_turn, log_k, one_source, questions};
+use reference::sample::{births, in_turn, log_k, one_source, questions};
 use reference::Question;
 use viewer::{Direction, Verdict};
 
@@ -33,52 +32,11 @@ fn every_size(asked: &Asked, met: &mut Met) -> Verdict {
     verdict
 }
 
-/// A question of Log K, the length and records of its answer, and its verdict.
-fn log_k_case(question: Question, length: usize, records: &[Vec<u8>], verdict: Verdict) {
-    let asked = Asked::new(&Host::new(&log_k()), question);
-    assert_eq!(asked.defined.len(), length);
-    assert_eq!(every_size(&asked, &mut Met::default()), verdict);
-    let mut work = viewer::work_for(&asked.defined);
-    let part = viewer::records(&typed(&question), &asked.commitment, &asked.defined, &mut work);
-    assert_eq!(part, records.concat());
-}
-
-#[test]
-fn log_k_found() {
-    let found = |time, count| Verdict::Found { time, count };
-    log_k_case(ask(1, 2, 35), 446, &[e(1, 10), e(2, 20), v(2, 30, 7, 1, 0)], found(30, 3));
-    log_k_case(ask(2, 1, 39), 451, &[s(1, 10), d(2, 30, 7, 0), v(1, 40, 8, 0, 1)], found(10, 3));
-    log_k_case(ask(2, 2, 20), 446, &[s(2, 20), t(2, 30, 0), d(1, 40, 8, 1)], found(20, 3));
-    log_k_case(ask(0, 2, 35), 393, &[], found(30, 0));
-    log_k_case(ask(0, 1, u64::MAX), 393, &[], found(40, 0));
-}
-
-#[test]
-fn log_k_not_found() {
-    for direction in 0..3 {
-        log_k_case(ask(direction, 2, 19), 219, &[], Verdict::NotYet);
-        log_k_case(ask(direction, 3, 35), 65, &[], Verdict::NoEntity);
-        log_k_case(ask(direction, 0, 35), 65, &[], Verdict::NoEntity);
-        let gap = Asked::new(&Host::new(&[birth(1, 10), birth(5, 20)]), ask(direction, 3, 35));
-        assert_eq!(gap.defined.len(), 162);
-        assert_eq!(every_size(&gap, &mut Met::default()), Verdict::NoEntity);
-    }
-}
-
-#[test]
-fn log_k_work_area() {
-    let asked = Asked::new(&Host::new(&log_k()), ask(1, 2, 35));
-    assert_eq!(asked.check(&asked.defined, 384), found(30, 3));
-    assert_eq!(asked.check(&asked.defined, 383), refused(12, 0));
-}
-
 /// Every question about random logs.
 fn all_questions(seed: u64, logs: usize, most: usize) {
-    let mut random = Random::new(seed);
     let mut met = Met::default();
     let mut verdicts = [0; 3];
-    for _ in 0..logs {
-        let records = random::sound_records(&mut random, most);
+    for records in sound_logs(seed, logs, most) {
         let host = Host::new(&records);
         for question in questions(&records) {
             match every_size(&Asked::new(&host, question), &mut met) {

@@ -2,7 +2,7 @@
 
 use reference::log::{write, Record};
 use reference::random::{self, Random};
-use reference::sample::{self, birth, births, flow, one_source};
+use reference::sample::{birth, births, flow, log_k, one_source};
 use viewer::Refusal;
 
 /// The call with a work area and an output of the given lengths, filled with a pattern, and the same call of the Rust version: result and
@@ -38,19 +38,9 @@ fn every_size(random: &mut Random, records: &[Record]) {
 }
 
 #[test]
-fn log_k() {
-    let k = sample::log_k();
-    let mut random = Random::new(31);
-    every_size(&mut random, &k);
-    // as computed from the definitions in `crates/logk`
-    let proved = "afa480e13388337b3ec74fcea39db57dddd6320386af49166a8fbf0d6f4511e1";
-    let (_, out) = commit(&mut random, &write(&k), 4 * 128, 32);
-    assert_eq!(out.iter().map(|byte| format!("{byte:02x}")).collect::<String>(), proved);
-}
-
-#[test]
 fn every_shape_of_tree() {
     let mut random = Random::new(32);
+    every_size(&mut random, &log_k());
     for length in 1..=40 {
         for _ in 0..20 {
             let records = random::records_of_length(&mut random, length);

@@ -5,6 +5,7 @@ use reference::check::{self as rows, Accepted};
 use reference::forge::{pieces, versions_of, Pieces};
 use reference::graph::Version;
 use reference::host::Host;
+use reference::log::{write, Record};
 use reference::random::{self, Random};
 use reference::sha256::Digest;
 use reference::Question;
@@ -66,6 +67,67 @@ fn verdict(accepted: Accepted) -> Verdict {
 
 fn refusal(refusal: reference::Refusal) -> Refusal {
     Refusal { number: refusal.number, position: refusal.position }
+}
+
+/// The call with a work area and an output of the given lengths, filled with patterns, and the same call of the Rust version: result and
+/// final memory must agree. Gives the result and the output's written part.
+pub fn answer(question: &Question, log: &[u8], work: usize, out: usize) -> (Result<u64, Refusal>, Vec<u8>) {
+    let before: Vec<u8> = (0..out).map(|place| (7 * place + 3) as u8).collect();
+    let (mut given, mut expected) = (before.clone(), before);
+    let result = with_work(work, |work| viewer::answer(&typed(question), log, work, &mut given));
+    let Question { direction, entity, time } = *question;
+    let written = reference::answer(direction, entity, time, log, &mut vec![0; work], &mut expected);
+    match written.number {
+        0 => assert_eq!(result, Ok(written.length)),
+        number => assert_eq!(result, refused(number, written.position as usize)),
+    }
+    assert!(given == expected, "{question:?}: the output differs");
+    given.truncate(written.length as usize);
+    (result, given)
+}
+
+/// The proved library's commitment of a log.
+pub fn commitment(log: &[u8], records: usize) -> [u8; 32] {
+    let mut out = [0; 32];
+    viewer::commitment(log, &mut viewer::work_area(records), &mut out).expect("a sound log and enough memory");
+    out
+}
+
+/// A sound log, its length in records and its commitment.
+pub struct Logged {
+    pub log: Vec<u8>,
+    pub records: usize,
+    pub commitment: [u8; 32],
+    pub host: Host,
+}
+
+impl Logged {
+    pub fn new(records: &[Record]) -> Self {
+        let log = write(records);
+        let commitment = commitment(&log, records.len());
+        Logged { commitment, log, records: records.len(), host: Host::new(records) }
+    }
+
+    pub fn answer(&self, question: &Question, work: usize, out: usize) -> Result<u64, Refusal> {
+        answer(question, &self.log, work, out).0
+    }
+
+    /// The answer is the defined one, and the proved check accepts it with the proved commitment.
+    pub fn round_trip(&self, question: &Question, extra: usize) -> Vec<u8> {
+        let defined = self.host.answer(question);
+        let (result, given) = answer(question, &self.log, 128 * self.records, defined.len() + extra);
+        assert_eq!(result, Ok(defined.len() as u64));
+        assert!(given == defined);
+        let checked = check(question, &self.commitment, &given, 128 * self.records);
+        assert!(checked.is_ok(), "{question:?}: {checked:?}");
+        given
+    }
+}
+
+/// Random sound logs, as records.
+pub fn sound_logs(seed: u64, logs: usize, most: usize) -> impl Iterator<Item = Vec<Record>> {
+    let mut random = Random::new(seed);
+    (0..logs).map(move |_| random::sound_records(&mut random, most))
 }
 
 /// A question about a sound log, with the log's commitment and the defined answer.
