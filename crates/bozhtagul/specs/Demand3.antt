@@ -11,7 +11,7 @@ use Rattle.model.specs.Graph.{graph}
 use Rattle.model.specs.Question.{Question, question, count}
 use Rattle.model.specs.Answer.{log-header, log-commitment, log-answer, log-hashed}
 use Rattle.model.specs.CheckRows.{work-width, Accepted, run, hashed-in-check}
-use Rattle.model.specs.Exact.{true-verdict, Clash, Faithful, SoundLog}
+use Rattle.model.specs.Exact.{true-verdict, Collision, Faithful, SoundLog}
 use Rattle.bozhtagul.specs.declared.Checked.{Checked}
 use Rattle.bozhtagul.specs.Results.{checked}
 
@@ -33,7 +33,7 @@ pub record Exact (direction s t : ℕ) (commitment x : Bytes) (size : ℕ) (a : 
   pub ran : run direction s t commitment x size ≡ ok run-of
   pub returned : r ≡ checked (ok (run-of .verdict))
   pub demand-3 : Faithful (log-header (a .records)) (graph (a .records)) (a .q) x run-of
-      ⊎ Clash (log-hashed (a .records)) (hashed-in-check (a .q .part) run-of)
+      ⊎ Collision (log-hashed (a .records)) (hashed-in-check (a .q .part) run-of)
 
 -- first half: whatever the bytes handed in and the work area, number 0 means that
 abbrev pub Sound : (direction s t : ℕ) (commitment x work : Bytes) → Checked → Type 0

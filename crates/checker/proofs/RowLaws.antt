@@ -26,7 +26,7 @@ use Rattle.proof_reader.proofs.Strings.{incoming-at, outgoing-at}
 use Rattle.trace_reader.specs.Records.{place-in, places-in}
 use Rattle.checker.specs.declared.Rows.{Rows}
 use Rattle.checker.specs.declared.Rows.the-variants.{Passed, Refused}
-use Rattle.checker.specs.Runs.{leaf-at, rowsOf, Lowest, digest-column, PathDigests, trace-in, found-rows}
+use Rattle.checker.specs.Runs.{leaf-in-answer, rowsOf, Lowest, digest-column, PathDigests, trace-in, found-rows}
 use Rattle.checker.proofs.Referring.{there, nowhere}
 
 -- ---- of either way
@@ -70,21 +70,25 @@ place-at work start n i h = map-counting-at (place-in work start) 0 n i 0 h ∙ 
 -- ---- 23
 
 module _ (work answer : Bytes) (i leaf e t : ℕ) (le : e ≡ leaf-in (take 77 (drop leaf answer)) .entity) (lt : t ≡ leaf-in (take 77 (drop leaf answer)) .time) where
-  pub entity-same : (a b : ℕ) → a ≡ field 4 work (128 * i + 72) → b ≡ field 8 work (128 * i + 64) → a ≡ e
-      → eqb b t ≡ (eqb (node-in work i .entity) (leaf-at answer leaf .entity) && eqb (node-in work i .time) (leaf-at answer leaf .time))
-  unfolding leaf-at node-in version
-  entity-same a b ea eb s = ap₂ eqb eb lt ∙ sym (ap (λ (x : Bool). x && eqb (node-in work i .time) (leaf-at answer leaf .time)) (eq-eqb _ _ (sym ea ∙ s ∙ le)))
+  entity-test : (a : ℕ) (x : Bool) → a ≡ field 4 work (128 * i + 72) → x ≡ eqb a e → eqb (node-in work i .entity) (leaf-in-answer answer leaf .entity) ≡ x
+  unfolding leaf-in-answer node-in version
+  entity-test a x ea h = ap₂ eqb (sym ea) (sym le) ∙ sym h
 
-  pub entity-differs : (a : ℕ) → a ≡ field 4 work (128 * i + 72) → (a ≡ e → ⊥)
-      → false ≡ (eqb (node-in work i .entity) (leaf-at answer leaf .entity) && eqb (node-in work i .time) (leaf-at answer leaf .time))
-  unfolding leaf-at node-in version
-  entity-differs a ea d = sym (ap (λ (x : Bool). x && eqb (node-in work i .time) (leaf-at answer leaf .time)) (ne-eqb _ _ (λ s. d (ea ∙ s ∙ sym le))))
+  pub entity-same : (a b : ℕ) (x y : Bool) → a ≡ field 4 work (128 * i + 72) → b ≡ field 8 work (128 * i + 64) → x ≡ eqb a e → x ≡ true → y ≡ eqb b t
+      → y ≡ (eqb (node-in work i .entity) (leaf-in-answer answer leaf .entity) && eqb (node-in work i .time) (leaf-in-answer answer leaf .time))
+  unfolding leaf-in-answer node-in version
+  entity-same a b x y ea eb h s g =
+      g ∙ ap₂ eqb eb lt ∙ sym (ap (λ (z : Bool). z && eqb (node-in work i .time) (leaf-in-answer answer leaf .time)) (entity-test a x ea h ∙ s))
+
+  pub entity-differs : (a : ℕ) (x : Bool) → a ≡ field 4 work (128 * i + 72) → x ≡ eqb a e → x ≡ false
+      → false ≡ (eqb (node-in work i .entity) (leaf-in-answer answer leaf .entity) && eqb (node-in work i .time) (leaf-in-answer answer leaf .time))
+  entity-differs a x ea h d = sym (ap (λ (z : Bool). z && eqb (node-in work i .time) (leaf-in-answer answer leaf .time)) (entity-test a x ea h ∙ d))
 
 -- ---- 24
 
 leaf-digest-at : (way : question.Way) (answer : Bytes) (leaf : ℕ) → leaf + 77 ≤ length answer
-    → leaf-digest way (leaf-at answer leaf) ≡ part answer (leaf + 13 + digest-column way) 32
-unfolding leaf-digest leaf-at digest-column
+    → leaf-digest way (leaf-in-answer answer leaf) ≡ part answer (leaf + 13 + digest-column way) 32
+unfolding leaf-digest leaf-in-answer digest-column
 leaf-digest-at question.backward answer leaf h = incoming-at answer leaf h ∙ ap (λ (k : ℕ). part answer k 32) (let z : leaf + 13 ≡ leaf + 13 + 0 = omega arith in z)
 leaf-digest-at question.forward answer leaf h = outgoing-at answer leaf h ∙ ap (λ (k : ℕ). part answer k 32) (let z : leaf + 45 ≡ leaf + 13 + 32 = omega arith in z)
 
@@ -99,7 +103,7 @@ column-few way column e = omega (arith, column-small way)
 module _ (way : question.Way) (work work′ answer : Bytes) (n i leaf column : ℕ) (e : column ≡ digest-column way) where
   pub digest-same : PathDigests way work work′ n → i < n → leaf + 77 ≤ length answer → (r : Bool)
       → r ≡ equal (part work′ (128 * i + column) 32) (part answer (leaf + 13 + column) 32)
-      → r ≡ equal (getD (path-digests way (nodes-in work n)) i []) (leaf-digest way (leaf-at answer leaf))
+      → r ≡ equal (getD (path-digests way (nodes-in work n)) i []) (leaf-digest way (leaf-in-answer answer leaf))
   digest-same d h g r q =
       q
       ∙ ap₂ equal

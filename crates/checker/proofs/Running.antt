@@ -35,7 +35,7 @@ use Rattle.checker.specs.declared.Bounds.{Bounds}
 use Rattle.checker.specs.declared.Run.{Run}
 use Rattle.checker.specs.declared.Rows.{Rows}
 use Rattle.checker.specs.declared.Rows.the-variants.{Passed, Refused as Turned}
-use Rattle.checker.specs.Runs.{checkingOf, boundsOf, RunIs, bareRun, leaf-at, found-proof, rowsOf, trace-in, Traced}
+use Rattle.checker.specs.Runs.{checkingOf, boundsOf, RunIs, bareRun, leaf-in-answer, found-proof, rowsOf, trace-in, Traced}
 
 -- ---- bounds
 
@@ -110,22 +110,22 @@ module _ (m : Result (Unit {0})) (r : Rows) (e : r ≡ rowsOf m) where
       go (refuse x y) h = ap₂ (λ (a b : ℕ). refuse a b) (sym (ap row-number h)) (sym (ap row-position h))
 
 module _ (way : question.Way) (answer work : Bytes) (leaf at n end : ℕ) (rows : Rows)
-    (e : rows ≡ rowsOf (trace-rows way (leaf-at answer leaf) (trace-in answer work at n end))) where
+    (e : rows ≡ rowsOf (trace-rows way (leaf-in-answer answer leaf) (trace-in answer work at n end))) where
   pub rows-refused : (x y : ℕ) (r : Run) → rows ≡ Turned x y → r ≡ bareRun (Refused x y)
-      → (size : ℕ) → Traced way size answer at work n end → RunIs answer (with-trace way size (found-proof answer leaf at) (leaf-at answer leaf)) r
+      → (size : ℕ) → Traced way size answer at work n end → RunIs answer (with-trace way size (found-proof answer leaf at) (leaf-in-answer answer leaf)) r
   unfolding with-trace found-proof
   rows-refused x y r q b size t =
-      bare-refused answer (with-trace way size (found-proof answer leaf at) (leaf-at answer leaf)) r x y
+      bare-refused answer (with-trace way size (found-proof answer leaf at) (leaf-in-answer answer leaf)) r x y
       (bind-eq (read-trace way size at (drop at answer)) _ (trace-in answer work at n end) (t .is)
-      ∙ bind-refused (trace-rows way (leaf-at answer leaf) (trace-in answer work at n end)) _ x y (turned _ rows e x y q)) b
+      ∙ bind-refused (trace-rows way (leaf-in-answer answer leaf) (trace-in answer work at n end)) _ x y (turned _ rows e x y q)) b
 
   pub rows-passed : (time : TimeKey) → rows ≡ Passed → time .0 ≡ leaf-in (take 77 (drop leaf answer)) .time → at + 5 ≤ length answer
       → (size : ℕ) → Traced way size answer at work n end
-      → RunIs answer (with-trace way size (found-proof answer leaf at) (leaf-at answer leaf))
+      → RunIs answer (with-trace way size (found-proof answer leaf at) (leaf-in-answer answer leaf))
       (record { verdict = Found time n; start = at + 5; length = length answer - (at + 5) })
-  unfolding with-trace found-proof trace-in verdict-of boundsOf checkingOf leaf-at _>>=_
+  unfolding with-trace found-proof trace-in verdict-of boundsOf checkingOf leaf-in-answer _>>=_
   rows-passed time q k h size t =
-      let l = leaf-at answer leaf in
+      let l = leaf-in-answer answer leaf in
       let d : length (drop at answer) ≡ length answer - at = length-drop at answer in
       let w : with-trace way size (found-proof answer leaf at) l
       ≡ ok (record {
@@ -169,10 +169,10 @@ module _ (way : question.Way) (size : ℕ) (answer : Bytes) (at : ℕ) (work : B
           }
 
   pub trace-turned : (leaf n p : ℕ) (run : Run) → r ≡ TraceRefused n p → run ≡ bareRun (Refused n p)
-      → RunIs answer (with-trace way size (found-proof answer leaf at) (leaf-at answer leaf)) run
+      → RunIs answer (with-trace way size (found-proof answer leaf at) (leaf-in-answer answer leaf)) run
   unfolding with-trace found-proof
   trace-turned leaf n p run q b =
-      bare-refused answer (with-trace way size (found-proof answer leaf at) (leaf-at answer leaf)) run n p
+      bare-refused answer (with-trace way size (found-proof answer leaf at) (leaf-in-answer answer leaf)) run n p
       (bind-refused (read-trace way size at (drop at answer)) _ n p (go (trace-is (TraceRefused n p) q))) b
     where
       go : TraceIs way size answer at work (TraceRefused n p) → read-trace way size at (drop at answer) ≡ refuse n p
@@ -196,7 +196,7 @@ module _ (s t : ℕ) (q : Question) where
 
 module _ (answer : Bytes) (leaf at size direction : ℕ) (r : Run) (s t : ℕ) (q : Question) (known : question direction s t ≡ ok q) where
   abbrev here : Part → Result Accepted
-  here p = check-end p size (found-proof answer leaf at) (SearchEnd.found (leaf-at answer leaf))
+  here p = check-end p size (found-proof answer leaf at) (SearchEnd.found (leaf-in-answer answer leaf))
 
   asked : (d : ℕ) → direction ≡ d → question d s t ≡ ok q
   asked d e = subst (λ (x : ℕ). question x s t ≡ ok q) e known
@@ -204,17 +204,17 @@ module _ (answer : Bytes) (leaf at size direction : ℕ) (r : Run) (s t : ℕ) (
   pub found-only : (time : TimeKey) → direction ≡ 0 → time .0 ≡ leaf-in (take 77 (drop leaf answer)) .time
       → ((e : SearchEnd Leaf) (v : Verdict) → Found time 0 ≡ checkingOf (ok v) → RunIs answer (end-here v (stopped e at (drop at answer))) r)
       → RunIs answer (here (q .part)) r
-  unfolding check-end found-proof checkingOf leaf-at
+  unfolding check-end found-proof checkingOf leaf-in-answer
   found-only time e k f =
       subst (λ (p : Part). RunIs answer (here p) r) (sym (part-0 s t q (asked 0 e)))
-      (f (SearchEnd.found (leaf-at answer leaf)) (Verdict.found (leaf-at answer leaf .time) 0) (ap (λ (x : ℕ). Found (record { 0 = x }) 0) k))
+      (f (SearchEnd.found (leaf-in-answer answer leaf)) (Verdict.found (leaf-in-answer answer leaf .time) 0) (ap (λ (x : ℕ). Found (record { 0 = x }) 0) k))
 
-  pub found-back : direction ≡ 1 → RunIs answer (with-trace backward size (found-proof answer leaf at) (leaf-at answer leaf)) r → RunIs answer (here (q .part)) r
+  pub found-back : direction ≡ 1 → RunIs answer (with-trace backward size (found-proof answer leaf at) (leaf-in-answer answer leaf)) r → RunIs answer (here (q .part)) r
   unfolding check-end
   found-back e f = subst (λ (p : Part). RunIs answer (here p) r) (sym (part-1 s t q (asked 1 e))) f
 
   pub found-fore : direction ≤ 2 → (direction ≡ 0 → ⊥) → (direction ≡ 1 → ⊥)
-      → RunIs answer (with-trace forward size (found-proof answer leaf at) (leaf-at answer leaf)) r → RunIs answer (here (q .part)) r
+      → RunIs answer (with-trace forward size (found-proof answer leaf at) (leaf-in-answer answer leaf)) r → RunIs answer (here (q .part)) r
   unfolding check-end
   found-fore h a b f = subst (λ (p : Part). RunIs answer (here p) r) (sym (part-2 s t q (asked 2 (omega arith)))) f
 
@@ -274,9 +274,9 @@ module _ (direction s t : ℕ) (few : direction ≤ 2) (commitment answer : Byte
 
     pub to-leaf : (leaf at : ℕ) → p ≡ ToLeaf leaf at
         → ((s t : ℕ) (q : Question) → question direction s t ≡ ok q
-        → RunIs answer (check-end (q .part) size (found-proof answer leaf at) (SearchEnd.found (leaf-at answer leaf))) r) → RunIs answer this-run r
-    unfolding found-proof leaf-at
-    to-leaf leaf at e f = at-end (SearchEnd.found (leaf-at answer leaf)) at (found-is answer m p M leaf at e .1) (f s t (k .q) (k .is))
+        → RunIs answer (check-end (q .part) size (found-proof answer leaf at) (SearchEnd.found (leaf-in-answer answer leaf))) r) → RunIs answer this-run r
+    unfolding found-proof leaf-in-answer
+    to-leaf leaf at e f = at-end (SearchEnd.found (leaf-in-answer answer leaf)) at (found-is answer m p M leaf at e .1) (f s t (k .q) (k .is))
 
 -- or a row before it
 module _ (direction s t : ℕ) (commitment answer : Bytes) (size : ℕ) (r : Run) where

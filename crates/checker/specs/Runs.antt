@@ -51,12 +51,12 @@ bareRun v = record { verdict = v; start = 0; length = 0 }
 -- ---- the leaf found
 
 -- the leaf of the string L at a byte of the answer
-unfoldable pub leaf-at : Bytes → ℕ → Leaf
-leaf-at answer leaf = leaf-in (take L-width (drop leaf answer))
+unfoldable pub leaf-in-answer : Bytes → ℕ → Leaf
+leaf-in-answer answer leaf = leaf-in (take L-width (drop leaf answer))
 
 -- a proof that ended at it, and the bytes behind it
 unfoldable pub found-proof : Bytes → ℕ → ℕ → CheckedProof
-found-proof answer leaf at = stopped (SearchEnd.found (leaf-at answer leaf)) at (drop at answer)
+found-proof answer leaf at = stopped (SearchEnd.found (leaf-in-answer answer leaf)) at (drop at answer)
 
 -- ---- the rows behind the trace's records
 

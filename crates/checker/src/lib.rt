@@ -2,6 +2,7 @@
 use graph::Way;
 use log::EntityKey;
 use log::TimeKey;
+use model::LETTER_R;
 use proof_reader::Proof;
 use trace_reader::Trace;
 ghost use mathlib.Core.Path.{_≡_};
@@ -21,7 +22,7 @@ ghost use Rattle.graph.specs.Table.{node-in, nodes-in, Ready};
 ghost use Rattle.marks.specs.Marks.{is-marked};
 ghost use Rattle.trace_reader.specs.Records.{place-in, places-in};
 ghost use Rattle.checker.specs.declared.Checking.the-variants.{Refused};
-ghost use Rattle.checker.specs.Runs.{checkingOf, boundsOf, RunIs, bareRun, leaf-at, found-proof, rowsOf, Lowest, digest-column, PathDigests, trace-in, found-rows, Traced};
+ghost use Rattle.checker.specs.Runs.{checkingOf, boundsOf, RunIs, bareRun, leaf-in-answer, found-proof, rowsOf, Lowest, digest-column, PathDigests, trace-in, found-rows, Traced};
 
 // The verdict of a check, or the row that turned it away and where.
 pub enum Checking {
@@ -97,12 +98,12 @@ fn position_of(work: &[u8], start: usize, i: usize) -> usize
 // Whether the version in a slot is the leaf's.
 fn same_version(work: &[u8], i: usize, answer: &[u8], leaf: usize) -> bool
     requires { ⌜ (128 * i + 128 ≤ length (now work)) × (leaf + 77 ≤ length (now answer)) ⌝ }
-    ensures { λ r. ⌜ r ≡ (eqb (node-in (now (work .entry)) i .entity) (leaf-at (now (answer .entry)) leaf .entity) && eqb (node-in (now (work .entry)) i .time) (leaf-at (now (answer .entry)) leaf .time)) ⌝ }
+    ensures { λ r. ⌜ r ≡ (eqb (node-in (now (work .entry)) i .entity) (leaf-in-answer (now (answer .entry)) leaf .entity) && eqb (node-in (now (work .entry)) i .time) (leaf-in-answer (now (answer .entry)) leaf .time)) ⌝ }
 {
     let entity = proof_reader::leaf_entity(answer, leaf);
     let time = proof_reader::leaf_time(answer, leaf);
-    if graph::entity_of(work, i).0 == entity.0 {
-        return graph::time_of(work, i).0 == time.0;
+    if graph::entity_of(work, i).same(entity) {
+        return graph::time_of(work, i).same(time);
     }
     false
 }
@@ -130,7 +131,7 @@ fn put_digests(way: Way, work: &mut [u8], n: usize)
 // Whether the path digest of the record in a slot is the leaf's.
 fn same_digest(way: Way, work: &mut [u8], n: usize, i: usize, answer: &[u8], leaf: usize) -> bool
     requires { ⌜ Ready (now work) n × (i < n) × (leaf + 77 ≤ length (now answer)) ⌝ }
-    ensures { λ r. ⌜ r ≡ equal (getD (path-digests (wayOf way) (nodes-in (now (work .entry)) n)) i []) (leaf-digest (wayOf way) (leaf-at (now (answer .entry)) leaf)) ⌝ }
+    ensures { λ r. ⌜ r ≡ equal (getD (path-digests (wayOf way) (nodes-in (now (work .entry)) n)) i []) (leaf-digest (wayOf way) (leaf-in-answer (now (answer .entry)) leaf)) ⌝ }
 {
     put_digests(way, work, n);
     let column = column_of(way);
@@ -146,7 +147,7 @@ enum Rows {
 // Rows 23 and 24.
 fn found_rows(way: Way, answer: &[u8], leaf: usize, start: usize, n: usize, work: &mut [u8]) -> Rows
     requires { ⌜ Ready (now work) n × (0 < n) × (leaf + 77 ≤ length (now answer)) × (start ≤ length (now answer)) ⌝ }
-    ensures { λ r. ⌜ r ≡ rowsOf (found-rows (wayOf way) (leaf-at (now (answer .entry)) leaf) (nodes-in (now (work .entry)) n) (places-in (now (work .entry)) start n)) ⌝ }
+    ensures { λ r. ⌜ r ≡ rowsOf (found-rows (wayOf way) (leaf-in-answer (now (answer .entry)) leaf) (nodes-in (now (work .entry)) n) (places-in (now (work .entry)) start n)) ⌝ }
 {
     let i = found_position(way, n);
     let position = position_of(work, start, i);
@@ -176,7 +177,7 @@ fn trace_rows(
     work: &mut [u8],
 ) -> Rows
     requires { ⌜ Ready (now work) n × (0 < n) × (leaf + 77 ≤ length (now answer)) × (start ≤ length (now answer)) × (end ≤ length (now answer)) ⌝ }
-    ensures { λ r. ⌜ r ≡ rowsOf (trace-rows (wayOf way) (leaf-at (now (answer .entry)) leaf) (trace-in (now (answer .entry)) (now (work .entry)) start n end)) ⌝ }
+    ensures { λ r. ⌜ r ≡ rowsOf (trace-rows (wayOf way) (leaf-in-answer (now (answer .entry)) leaf) (trace-in (now (answer .entry)) (now (work .entry)) start n end)) ⌝ }
 {
     if end < answer.len() {
         return Rows::Refused {
@@ -247,7 +248,7 @@ fn traced(
     work: &mut [u8],
 ) -> Run
     requires { ⌜ Ready (now work) n × (0 < n) × (leaf + 77 ≤ length (now answer)) × (at + 5 ≤ length (now answer)) × (end ≤ length (now answer)) ⌝ }
-    ensures { λ r. ⌜ ((size : ℕ) → Traced (wayOf way) size (now (answer .entry)) at (now (work .entry)) n end → RunIs (now (answer .entry)) (with-trace (wayOf way) size (found-proof (now (answer .entry)) leaf at) (leaf-at (now (answer .entry)) leaf)) r) ⌝ }
+    ensures { λ r. ⌜ ((size : ℕ) → Traced (wayOf way) size (now (answer .entry)) at (now (work .entry)) n end → RunIs (now (answer .entry)) (with-trace (wayOf way) size (found-proof (now (answer .entry)) leaf at) (leaf-in-answer (now (answer .entry)) leaf)) r) ⌝ }
 {
     match trace_rows(way, answer, leaf, at, n, end, work) {
         Rows::Refused { number, position } => refused(number, position),
@@ -270,7 +271,7 @@ fn traced(
 // A trace behind the proof, which ended at the leaf.
 fn with_trace(way: Way, answer: &[u8], leaf: usize, at: usize, work: &mut [u8]) -> Run
     requires { ⌜ (leaf + 77 ≤ length (now answer)) × (at ≤ length (now answer)) ⌝ }
-    ensures { λ r. ⌜ RunIs (now (answer .entry)) (with-trace (wayOf way) (length (now (work .entry))) (found-proof (now (answer .entry)) leaf at) (leaf-at (now (answer .entry)) leaf)) r ⌝ }
+    ensures { λ r. ⌜ RunIs (now (answer .entry)) (with-trace (wayOf way) (length (now (work .entry))) (found-proof (now (answer .entry)) leaf at) (leaf-in-answer (now (answer .entry)) leaf)) r ⌝ }
 {
     match trace_reader::read_trace(answer, at, way, work) {
         Trace::Refused { number, position } => refused(number, position),
@@ -281,7 +282,7 @@ fn with_trace(way: Way, answer: &[u8], leaf: usize, at: usize, work: &mut [u8]) 
 // The proof ended at the leaf: direction 0 asks for no trace.
 fn found(direction: u8, answer: &[u8], leaf: usize, at: usize, work: &mut [u8]) -> Run
     requires { ⌜ (direction ≤ 2) × (leaf + 77 ≤ length (now answer)) × (at ≤ length (now answer)) ⌝ }
-    ensures { λ r. ⌜ ((s t : ℕ) (q : Question) → question direction s t ≡ ok q → RunIs (now (answer .entry)) (check-end (q .part) (length (now (work .entry))) (found-proof (now (answer .entry)) leaf at) (SearchEnd.found (leaf-at (now (answer .entry)) leaf))) r) ⌝ }
+    ensures { λ r. ⌜ ((s t : ℕ) (q : Question) → question direction s t ≡ ok q → RunIs (now (answer .entry)) (check-end (q .part) (length (now (work .entry))) (found-proof (now (answer .entry)) leaf at) (SearchEnd.found (leaf-in-answer (now (answer .entry)) leaf))) r) ⌝ }
 {
     if direction == 0 {
         let time = proof_reader::leaf_time(answer, leaf);
@@ -317,7 +318,7 @@ fn run_check(
     if commitment.len() != 32 {
         return refused(14, 0);
     }
-    match proof_reader::check_proof(0x52, entity, time, commitment, answer, 0) {
+    match proof_reader::check_proof(LETTER_R, entity, time, commitment, answer, 0) {
         Proof::Refused { number, position } => refused(number, position),
         Proof::NoEntity { at } => without_trace(answer, at, Checking::NoEntity),
         Proof::NotYet { at } => without_trace(answer, at, Checking::NotYet),

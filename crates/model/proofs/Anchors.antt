@@ -16,7 +16,7 @@ use Rattle.model.specs.Question.{backward, trace-of, Question, question,
 use Rattle.model.specs.Answer.{log-header, log-commitment, log-answer, log-hashed}
 use Rattle.model.specs.CheckRows.{enough, Accepted, run, path-strings, trace-strings, hashed-in-check}
 use Rattle.model.specs.Calls.{verdict-of}
-use Rattle.model.specs.Exact.{sought-from, any-version, verdict-at, true-verdict, Clash, Faithful, Check, SoundLog, Soundness, Completeness}
+use Rattle.model.specs.Exact.{sought-from, any-version, verdict-at, true-verdict, Collision, Faithful, Check, SoundLog, Soundness, Completeness}
 use Rattle.model.proofs.Outcomes.{refuse≢ok, ok-inj}
 use Rattle.model.proofs.Lists.{_among_}
 use Rattle.model.proofs.Walk.{asked}
@@ -26,10 +26,10 @@ use Rattle.model.proofs.Soundness.{soundness}
 use Rattle.model.proofs.Completeness.{completeness}
 use Rattle.model.proofs.LogK.{computed, log-bytes, K, K-sound, starred-cases}
 
--- ---- a clash is a real collision
+-- ---- a collision is a real collision
 
-pub clash-is-collision : {built checked : List Bytes} → Clash built checked → (x : Bytes) × (y : Bytes) × (x ≢ y) × (H x ≡ H y)
-clash-is-collision c = (c .x, c .y, c .differ, c .one-hash)
+pub collision-real : {built checked : List Bytes} → Collision built checked → (x : Bytes) × (y : Bytes) × (x ≢ y) × (H x ≡ H y)
+collision-real c = (c .x, c .y, c .differ, c .one-hash)
 
 -- where no two different strings of the two lists share a hash, an accepted answer is the defined one
 pub no-collision : (log : Bytes) (rs : List Record) → SoundLog log rs → (direction s t : ℕ) (q : Question) → question direction s t ≡ ok q → (x : Bytes) → Octets x → (work : ℕ) (a : Accepted)
@@ -39,7 +39,7 @@ pub no-collision : (log : Bytes) (rs : List Record) → SoundLog log rs → (dir
 unfolding log-answer
 no-collision log rs l direction s t q e x o work a r one = go (soundness log rs l direction s t q e x o work a r)
   where
-    go : Faithful (log-header rs) (graph rs) q x a ⊎ Clash (log-hashed rs) (hashed-in-check (q .part) a) → x ≡ log-answer rs q
+    go : Faithful (log-header rs) (graph rs) q x a ⊎ Collision (log-hashed rs) (hashed-in-check (q .part) a) → x ≡ log-answer rs q
     go (inl f) = f .the-answer
     go (inr c) = absurd (c .differ (one (c .x) (c .y) (c .x-built) (c .y-checked) (c .one-hash)))
 
@@ -62,7 +62,7 @@ K-hashed-letters = refl
 -- ---- both halves at K
 
 pub soundness-at-K : (direction s t : ℕ) (q : Question) → question direction s t ≡ ok q → (x : Bytes) → Octets x → (work : ℕ) (a : Accepted) → run direction s t (log-commitment K) x work ≡ ok a
-    → Faithful (log-header K) (graph K) q x a ⊎ Clash (log-hashed K) (hashed-in-check (q .part) a)
+    → Faithful (log-header K) (graph K) q x a ⊎ Collision (log-hashed K) (hashed-in-check (q .part) a)
 soundness-at-K = soundness (log-bytes K) K K-sound
 
 pub completeness-at-K : (direction s t : ℕ) (q : Question) → question direction s t ≡ ok q → (work : ℕ)
@@ -80,7 +80,7 @@ unfolding computed accept-all hashed-in-check trace-strings path-strings incomin
 accept-all-unsound v sound = go (sound (log-bytes K) K K-sound 1 2 35 (asked (trace-of backward) 2 35) refl [] Octets.none 0 _ refl)
   where
     go : Faithful (log-header K) (graph K) (asked (trace-of backward) 2 35) [] (record { verdict = v; opened = []; records = []; records-start = 0; records-length = 0 })
-        ⊎ Clash (log-hashed K) [] → ⊥
+        ⊎ Collision (log-hashed K) [] → ⊥
     go (inl f) =
         let c = starred-cases .one in
         nothing (ap length (f .the-answer)) (subst (λ (z : Question). length (log-answer K z) ≡ 446) (ok-inj (sym (c .known))) (c .the-length))

@@ -1,4 +1,4 @@
--- The backward trace: accepted records are the subgraph on the versions that reach the found one, or two strings clash. Assumes nothing.
+-- The backward trace: accepted records are the subgraph on the versions that reach the found one, or two strings collision. Assumes nothing.
 use mathlib.Core.Path.{_≡_, refl, sym, ap, ap₂, _∙_, subst}
 use mathlib.Core.Logic.{_⊎_, inl, inr}
 use Prim.Native.Nat.{ℕ, zero, suc, _+_, _-_, _<_, _≤_}
@@ -12,7 +12,7 @@ use Rattle.model.specs.Digest.{Link, link, incoming-links, incoming-dige
 use Rattle.model.specs.Question.{backward}
 use Rattle.model.specs.Trace.{position-in, edges-inside, induced-subgraph}
 use Rattle.model.specs.CheckRows.{path-digests}
-use Rattle.model.specs.Exact.{Exactly, Clash}
+use Rattle.model.specs.Exact.{Exactly, Collision}
 use Rattle.model.proofs.Lists.{_among_, in-place, gather, elem-in}
 use Rattle.model.proofs.Digests.{links-of, path-string}
 use Rattle.model.proofs.Match.{Regular, Matches, Entry, enter, is-it, places-up, in-places, in-across, in-back, exactly-places, induced-places}
@@ -24,7 +24,7 @@ module _ (T G : List VersionNode) (rT : Regular T) (rG : Regular G) {B C : List 
     (used : (i : ℕ) → i < n → (k : ℕ) × (e : InEdge) × (k < length T) × (e among node-at T k .in-edges) × (e .start ≡ i))
   where
     -- from a record that is a version to one that it refers to
-    follow : (k : ℕ) (e : InEdge) → k < length T → e among node-at T k .in-edges → Clash B C ⊎ ((j : ℕ) × Entry backward T G (λ (j : ℕ). CausalPath G j v) k j) → Clash B C ⊎ ((j : ℕ) × Entry backward T G (λ (j : ℕ). CausalPath G j v) (e .start) j)
+    follow : (k : ℕ) (e : InEdge) → k < length T → e among node-at T k .in-edges → Collision B C ⊎ ((j : ℕ) × Entry backward T G (λ (j : ℕ). CausalPath G j v) k j) → Collision B C ⊎ ((j : ℕ) × Entry backward T G (λ (j : ℕ). CausalPath G j v) (e .start) j)
     follow k e hk m (inl c) = inl c
     follow k e hk m (inr r) =
         let j = r .0 in
@@ -34,24 +34,24 @@ module _ (T G : List VersionNode) (rT : Regular T) (rG : Regular G) {B C : List 
         (step (record { edge = f; start-there = a .2 .far .j-in; end-there = r .1 .matched .j-in; listed = a .1; starts = refl }) (r .1 .on-path))
 
     -- from the last record down, every record is a version: d bounds how far from the last
-    entry : (d i : ℕ) → i < length T → length T ≤ i + suc d → Clash B C ⊎ ((j : ℕ) × Entry backward T G (λ (j : ℕ). CausalPath G j v) i j)
-    entry zero i h b = subst (λ (k : ℕ). Clash B C ⊎ ((j : ℕ) × Entry backward T G (λ (j : ℕ). CausalPath G j v) k j)) (omega arith) (enter backward T G rT rG (λ (j : ℕ). CausalPath G j v) built checked n v start (stay (start .j-in)))
+    entry : (d i : ℕ) → i < length T → length T ≤ i + suc d → Collision B C ⊎ ((j : ℕ) × Entry backward T G (λ (j : ℕ). CausalPath G j v) i j)
+    entry zero i h b = subst (λ (k : ℕ). Collision B C ⊎ ((j : ℕ) × Entry backward T G (λ (j : ℕ). CausalPath G j v) k j)) (omega arith) (enter backward T G rT rG (λ (j : ℕ). CausalPath G j v) built checked n v start (stay (start .j-in)))
     entry (suc d) i h b = go (decLt i n) (λ (k : ℕ) (hk : k < length T) (bk : length T ≤ k + suc d). entry d k hk bk)
       where
-        go : Dec (i < n) → ((k : ℕ) → k < length T → length T ≤ k + suc d → Clash B C ⊎ ((j : ℕ) × Entry backward T G (λ (j : ℕ). CausalPath G j v) k j)) → Clash B C ⊎ ((j : ℕ) × Entry backward T G (λ (j : ℕ). CausalPath G j v) i j)
-        go (no p) rec = subst (λ (k : ℕ). Clash B C ⊎ ((j : ℕ) × Entry backward T G (λ (j : ℕ). CausalPath G j v) k j)) (omega arith) (enter backward T G rT rG (λ (j : ℕ). CausalPath G j v) built checked n v start (stay (start .j-in)))
+        go : Dec (i < n) → ((k : ℕ) → k < length T → length T ≤ k + suc d → Collision B C ⊎ ((j : ℕ) × Entry backward T G (λ (j : ℕ). CausalPath G j v) k j)) → Collision B C ⊎ ((j : ℕ) × Entry backward T G (λ (j : ℕ). CausalPath G j v) i j)
+        go (no p) rec = subst (λ (k : ℕ). Collision B C ⊎ ((j : ℕ) × Entry backward T G (λ (j : ℕ). CausalPath G j v) k j)) (omega arith) (enter backward T G rT rG (λ (j : ℕ). CausalPath G j v) built checked n v start (stay (start .j-in)))
         go (yes p) rec =
             let u = used i p in
             let k = u .0 in
             let e = u .1 in
             let b′ : e .start < k = rT .down k (u .2) e (u .3) in
             let s : e .start ≡ i = u .4 in
-            subst (λ (k : ℕ). Clash B C ⊎ ((j : ℕ) × Entry backward T G (λ (j : ℕ). CausalPath G j v) k j)) s (follow k e (u .2) (u .3) (rec k (u .2) (omega arith)))
+            subst (λ (k : ℕ). Collision B C ⊎ ((j : ℕ) × Entry backward T G (λ (j : ℕ). CausalPath G j v) k j)) s (follow k e (u .2) (u .3) (rec k (u .2) (omega arith)))
 
-    pub entries : Clash B C ⊎ ((fs : List ℕ) × (length fs ≡ length T) × ((i : ℕ) → i < length T → Entry backward T G (λ (j : ℕ). CausalPath G j v) i (getD fs i 0)))
+    pub entries : Collision B C ⊎ ((fs : List ℕ) × (length fs ≡ length T) × ((i : ℕ) → i < length T → Entry backward T G (λ (j : ℕ). CausalPath G j v) i (getD fs i 0)))
     entries = gather (Entry backward T G (λ (j : ℕ). CausalPath G j v)) (length T) (λ i h. entry (length T) i h (omega arith))
 
--- ---- what follows with no clash
+-- ---- what follows with no collision
 
 module _ (T G : List VersionNode) (rT : Regular T) (rG : Regular G) (n v : ℕ) (last : length T ≡ suc n) (start : Matches backward T G n v)
     (fs : List ℕ) (len : length fs ≡ length T) (entries : (i : ℕ) → i < length T → Entry backward T G (λ (j : ℕ). CausalPath G j v) i (getD fs i 0))

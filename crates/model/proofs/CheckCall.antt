@@ -13,7 +13,7 @@ use Rattle.model.specs.Question.{Question, question, Verdict, count}
 use Rattle.model.specs.Answer.{log-header, log-commitment, log-answer, log-hashed}
 use Rattle.model.specs.CheckRows.{enough, Accepted, run, hashed-in-check}
 use Rattle.model.specs.Calls.{verdict-of, check-call}
-use Rattle.model.specs.Exact.{true-verdict, Clash, Faithful, SoundLog}
+use Rattle.model.specs.Exact.{true-verdict, Collision, Faithful, SoundLog}
 use Rattle.model.proofs.Outcomes.{bind-ok, ok-inj}
 use Rattle.model.proofs.Soundness.{soundness}
 use Rattle.model.proofs.Completeness.{completeness}
@@ -29,7 +29,7 @@ module _ (log : Bytes) (rs : List Record) (l : SoundLog log rs) (direction s t :
     pub run-of : Accepted
     pub ran : run direction s t (log-commitment rs) x (length work) ≡ ok run-of
     pub verdict-is : run-of .verdict ≡ v
-    pub demand-3 : Faithful (log-header rs) (graph rs) q x run-of ⊎ Clash (log-hashed rs) (hashed-in-check (q .part) run-of)
+    pub demand-3 : Faithful (log-header rs) (graph rs) q x run-of ⊎ Collision (log-hashed rs) (hashed-in-check (q .part) run-of)
 
   pub check-sound : (x : Bytes) → Octets x → (v : Verdict) → check-call direction s t (log-commitment rs) x work .result ≡ ok v → SoundCall x v
   unfolding check-call

@@ -1,4 +1,4 @@
--- The forward trace: accepted records are the subgraph on the versions that the found one reaches, or two strings clash. Assumes nothing.
+-- The forward trace: accepted records are the subgraph on the versions that the found one reaches, or two strings collision. Assumes nothing.
 use mathlib.Core.Path.{_≡_, refl, sym, ap, _∙_, subst}
 use mathlib.Core.Logic.{_⊎_, inl, inr}
 use Prim.Native.Nat.{ℕ, zero, suc, _-_, _<_, _≤_}
@@ -10,7 +10,7 @@ use Rattle.model.specs.Numbers.{Bytes, elem}
 use Rattle.model.specs.Graph.{InEdge, VersionNode, node-at, CausalPath, stay, step}
 use Rattle.model.specs.Question.{forward}
 use Rattle.model.specs.Trace.{position-in, edges-inside, induced-subgraph}
-use Rattle.model.specs.Exact.{Exactly, Clash}
+use Rattle.model.specs.Exact.{Exactly, Collision}
 use Rattle.model.proofs.Lists.{_among_, up-ext, in-place, gather, elem-in, in-elem}
 use Rattle.model.proofs.Digests.{path-string}
 use Rattle.model.proofs.Match.{Regular, one-time, Matches, Entry, enter, is-it, places-up, in-places, out-across, out-back, exactly-places, induced-places}
@@ -23,7 +23,7 @@ module _ (T G : List VersionNode) (rT : Regular T) (rG : Regular G) {B C : List 
     (rooted : (i : ℕ) → 0 < i → i < length T → (e : InEdge) × (e among node-at T i .in-edges))
   where
     -- from a record that is a version to one with an edge from it
-    follow : (i : ℕ) (e : InEdge) → i < length T → e among node-at T i .in-edges → Clash B C ⊎ ((j : ℕ) × Entry forward T G (λ (j : ℕ). CausalPath G v j) (e .start) j) → Clash B C ⊎ ((j : ℕ) × Entry forward T G (λ (j : ℕ). CausalPath G v j) i j)
+    follow : (i : ℕ) (e : InEdge) → i < length T → e among node-at T i .in-edges → Collision B C ⊎ ((j : ℕ) × Entry forward T G (λ (j : ℕ). CausalPath G v j) (e .start) j) → Collision B C ⊎ ((j : ℕ) × Entry forward T G (λ (j : ℕ). CausalPath G v j) i j)
     follow i e h m (inl c) = inl c
     follow i e h m (inr r) =
         let j = r .0 in
@@ -31,21 +31,21 @@ module _ (T G : List VersionNode) (rT : Regular T) (rG : Regular G) {B C : List 
         enter forward T G rT rG (λ (j : ℕ). CausalPath G v j) built checked i (a .0) (a .4 .far) (path-snoc (r .1 .on-path) (record { edge = a .1; start-there = path-to (r .1 .on-path); end-there = a .4 .far .j-in; listed = a .2; starts = a .3 }))
 
     -- from the first record up, every record is a version
-    entry : (d i : ℕ) → i ≤ d → i < length T → Clash B C ⊎ ((j : ℕ) × Entry forward T G (λ (j : ℕ). CausalPath G v j) i j)
-    entry zero i b h = subst (λ (k : ℕ). Clash B C ⊎ ((j : ℕ) × Entry forward T G (λ (j : ℕ). CausalPath G v j) k j)) (omega arith) (enter forward T G rT rG (λ (j : ℕ). CausalPath G v j) built checked 0 v start (stay (start .j-in)))
+    entry : (d i : ℕ) → i ≤ d → i < length T → Collision B C ⊎ ((j : ℕ) × Entry forward T G (λ (j : ℕ). CausalPath G v j) i j)
+    entry zero i b h = subst (λ (k : ℕ). Collision B C ⊎ ((j : ℕ) × Entry forward T G (λ (j : ℕ). CausalPath G v j) k j)) (omega arith) (enter forward T G rT rG (λ (j : ℕ). CausalPath G v j) built checked 0 v start (stay (start .j-in)))
     entry (suc d) i b h = go (decLt 0 i) (λ (k : ℕ) (bk : k ≤ d) (hk : k < length T). entry d k bk hk)
       where
-        go : Dec (0 < i) → ((k : ℕ) → k ≤ d → k < length T → Clash B C ⊎ ((j : ℕ) × Entry forward T G (λ (j : ℕ). CausalPath G v j) k j)) → Clash B C ⊎ ((j : ℕ) × Entry forward T G (λ (j : ℕ). CausalPath G v j) i j)
-        go (no p) rec = subst (λ (k : ℕ). Clash B C ⊎ ((j : ℕ) × Entry forward T G (λ (j : ℕ). CausalPath G v j) k j)) (omega arith) (enter forward T G rT rG (λ (j : ℕ). CausalPath G v j) built checked 0 v start (stay (start .j-in)))
+        go : Dec (0 < i) → ((k : ℕ) → k ≤ d → k < length T → Collision B C ⊎ ((j : ℕ) × Entry forward T G (λ (j : ℕ). CausalPath G v j) k j)) → Collision B C ⊎ ((j : ℕ) × Entry forward T G (λ (j : ℕ). CausalPath G v j) i j)
+        go (no p) rec = subst (λ (k : ℕ). Collision B C ⊎ ((j : ℕ) × Entry forward T G (λ (j : ℕ). CausalPath G v j) k j)) (omega arith) (enter forward T G rT rG (λ (j : ℕ). CausalPath G v j) built checked 0 v start (stay (start .j-in)))
         go (yes p) rec =
             let u = rooted i p h in
             let s = rT .down i h (u .0) (u .1) in
             follow i (u .0) h (u .1) (rec (u .0 .start) (omega arith) (omega arith))
 
-    pub entries : Clash B C ⊎ ((fs : List ℕ) × (length fs ≡ length T) × ((i : ℕ) → i < length T → Entry forward T G (λ (j : ℕ). CausalPath G v j) i (getD fs i 0)))
+    pub entries : Collision B C ⊎ ((fs : List ℕ) × (length fs ≡ length T) × ((i : ℕ) → i < length T → Entry forward T G (λ (j : ℕ). CausalPath G v j) i (getD fs i 0)))
     entries = gather (Entry forward T G (λ (j : ℕ). CausalPath G v j)) (length T) (λ i h. entry i i (omega arith) h)
 
--- ---- what follows with no clash
+-- ---- what follows with no collision
 
 module _ (T G : List VersionNode) (rT : Regular T) (rG : Regular G) (v : ℕ) (start : Matches forward T G 0 v)
     (fs : List ℕ) (len : length fs ≡ length T) (entries : (i : ℕ) → i < length T → Entry forward T G (λ (j : ℕ). CausalPath G v j) i (getD fs i 0))

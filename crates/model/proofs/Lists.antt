@@ -49,10 +49,10 @@ module _ {A : Type 0} (μ : A → ℕ) where
     where
       go : (x ≡ b) ⊎ (x among m) → x among m
       go (inr k) = k
-      go (inl p) = absurd (clash (h x i) (ap μ (p ∙ sym e)))
+      go (inl p) = absurd (collision (h x i) (ap μ (p ∙ sym e)))
         where
-          clash : {p q : ℕ} → p < q → q ≡ p → ⊥
-          clash h e = omega arith
+          collision : {p q : ℕ} → p < q → q ≡ p → ⊥
+          collision h e = omega arith
 
   heads : (a b : A) (l m : List A) → ((x : A) → x among l → μ a < μ x) → ((x : A) → x among m → μ b < μ x) → a among b ∷ m → b among a ∷ l → a ≡ b
   heads a b l m ha hb i j = go (List·Memᴰ·cases-cons i) (List·Memᴰ·cases-cons j)

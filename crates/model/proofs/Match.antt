@@ -1,5 +1,5 @@
 -- A list of records T against the true versions G: a record and a version with the same name and path digest have the same links, or two
--- strings clash. Assumes nothing.
+-- strings collision. Assumes nothing.
 use mathlib.Core.Path.{_≡_, sym, ap, _∙_, subst}
 use mathlib.Core.Logic.{_⊎_, inl, inr}
 use Prim.Native.Nat.{ℕ, _^_, _<_}
@@ -12,23 +12,23 @@ use Rattle.model.specs.Graph.{InEdge, VersionNode, node-at, no-version}
 use Rattle.model.specs.Digest.{type-width, Link, link, incoming-links, incoming-digests, outgoing-digests}
 use Rattle.model.specs.Question.{Way, backward, forward}
 use Rattle.model.specs.CheckRows.{path-digests}
-use Rattle.model.specs.Exact.{Clash, Exactly}
+use Rattle.model.specs.Exact.{Collision, Exactly}
 use Rattle.model.proofs.Strings.{H-length, bytes-discrete}
 use Rattle.model.proofs.Lists.{_among_, Up, in-map, of-map, place-in, up-places, in-place, up-rising, map-ext}
 use Rattle.model.proofs.Digests.{LinkFits, AllLinksFit, Down, links-of, path-string, digest-right, path-string-inj, outs-in, of-outs}
 use Rattle.model.specs.Trace.{edges-inside, node-inside, induced-subgraph}
 
--- ---- a clash, or the true string
+-- ---- a collision, or the true string
 
-pub settle : {B C : List Bytes} (x y : Bytes) → x among B → y among C → H y ≡ H x → (y ≡ x) ⊎ Clash B C
+pub settle : {B C : List Bytes} (x y : Bytes) → x among B → y among C → H y ≡ H x → (y ≡ x) ⊎ Collision B C
 settle {B} {C} x y mx my e = go (bytes-discrete y x)
   where
-    go : Dec (y ≡ x) → (y ≡ x) ⊎ Clash B C
+    go : Dec (y ≡ x) → (y ≡ x) ⊎ Collision B C
     go (yes p) = inl p
     go (no n) = inr (record { x = x; y = y; x-built = mx; y-checked = my; differ = λ q. n (sym q); one-hash = sym e })
 
-pub clash-into : {B C D : List Bytes} → ((y : Bytes) → y among C → y among D) → Clash B C → Clash B D
-clash-into f c = record { x = c .x; y = c .y; x-built = c .x-built; y-checked = f (c .y) (c .y-checked); differ = c .differ; one-hash = c .one-hash }
+pub collision-into : {B C D : List Bytes} → ((y : Bytes) → y among C → y among D) → Collision B C → Collision B D
+collision-into f c = record { x = c .x; y = c .y; x-built = c .x-built; y-checked = f (c .y) (c .y-checked); differ = c .differ; one-hash = c .one-hash }
 
 -- ---- what holds of a well-formed graph's versions and of the records that the check reads
 
@@ -116,23 +116,23 @@ pub record Entry (way : Way) (T G : List VersionNode) (P : ℕ → Type 0) (i j 
   pub links : links-of way T i ≡ links-of way G j
 
 module _ (way : Way) (T G : List VersionNode) (rT : Regular T) (rG : Regular G) where
-  -- matching records have the same links, or two strings clash
+  -- matching records have the same links, or two strings collision
   pub same-links : {B C : List Bytes} (i j : ℕ) → path-string way G j among B → path-string way T i among C → Matches way T G i j
-      → (links-of way T i ≡ links-of way G j) ⊎ Clash B C
+      → (links-of way T i ≡ links-of way G j) ⊎ Collision B C
   same-links {B} {C} i j mb mc m =
       go
       (settle (path-string way G j) (path-string way T i) mb mc
       (sym (digest-right way T (rT .down) i (m .i-in)) ∙ m .digest-is ∙ digest-right way G (rG .down) j (m .j-in)))
     where
-      go : (path-string way T i ≡ path-string way G j) ⊎ Clash B C → (links-of way T i ≡ links-of way G j) ⊎ Clash B C
+      go : (path-string way T i ≡ path-string way G j) ⊎ Collision B C → (links-of way T i ≡ links-of way G j) ⊎ Collision B C
       go (inl p) = inl (path-string-inj way T G i j (links-fit way T rT i (m .i-in)) (links-fit way G rG j (m .j-in)) p)
       go (inr c) = inr c
 
   pub enter : {B C : List Bytes} (P : ℕ → Type 0) → ((j : ℕ) → j < length G → path-string way G j among B) → ((i : ℕ) → i < length T → path-string way T i among C)
-      → (i j : ℕ) → Matches way T G i j → P j → Clash B C ⊎ ((j : ℕ) × Entry way T G P i j)
+      → (i j : ℕ) → Matches way T G i j → P j → Collision B C ⊎ ((j : ℕ) × Entry way T G P i j)
   enter {B} {C} P built checked i j m p = go (same-links i j (built j (m .j-in)) (checked i (m .i-in)) m)
     where
-      go : (links-of way T i ≡ links-of way G j) ⊎ Clash B C → Clash B C ⊎ ((j : ℕ) × Entry way T G P i j)
+      go : (links-of way T i ≡ links-of way G j) ⊎ Collision B C → Collision B C ⊎ ((j : ℕ) × Entry way T G P i j)
       go (inl e) = inr (j, record { matched = m; on-path = p; links = e })
       go (inr c) = inl c
 

@@ -1,5 +1,5 @@
 -- Demand 3, first half, over well-formed graphs: an accepted answer is the defined one with the true verdict and the true trace, or two
--- strings clash. Assumes nothing.
+-- strings collision. Assumes nothing.
 use mathlib.Core.Path.{_≡_, refl, sym, ap, _∙_, subst}
 use mathlib.Core.Logic.{_⊎_, inl, inr}
 use Prim.Native.Nat.{ℕ, _+_, _-_}
@@ -18,11 +18,11 @@ use Rattle.model.specs.Trace.{trace, trace-string}
 use Rattle.model.specs.Answer.{proof, trace-part, answer}
 use Rattle.model.specs.CheckRows.{CheckedProof, check-proof, CheckedTrace, Accepted, end-here, with-trace, check-end, run-under, path-strings, trace-strings, hashed-in-check}
 use Rattle.model.specs.WellFormed.{WellFormed}
-use Rattle.model.specs.Exact.{IsSought, is-found, reached, true-verdict, Shows, Clash, Faithful, SoundnessOverGraphs}
+use Rattle.model.specs.Exact.{IsSought, is-found, reached, true-verdict, Shows, Collision, Faithful, SoundnessOverGraphs}
 use Rattle.model.proofs.Outcomes.{ok-inj, bind-ok, past}
 use Rattle.model.proofs.Strings.{empty, octets-right}
 use Rattle.model.proofs.Lists.{_among_}
-use Rattle.model.proofs.Match.{clash-into}
+use Rattle.model.proofs.Match.{collision-into}
 use Rattle.model.proofs.TraceReading.{trace-read}
 use Rattle.model.proofs.TraceExact.{Passed, rows-passed, trace-exact}
 use Rattle.model.proofs.Walk.{entity-strings, Sound, Agrees, seen, asked, proof-sound, proof-used}
@@ -58,7 +58,7 @@ sought-found G w p s t v a =
 
 module _ (h : Header) (G : List VersionNode) (w : WellFormed G) (p : Part) (s t : ℕ) (x : Bytes) (ox : Octets x) (work : ℕ) (a : Accepted) where
   abbrev Done : Type 0
-  Done = Faithful h G (asked p s t) x a ⊎ Clash (hashed-in-building h G) (hashed-in-check p a)
+  Done = Faithful h G (asked p s t) x a ⊎ Collision (hashed-in-building h G) (hashed-in-check p a)
 
   abbrev end : SearchEnd VersionLeaf
   end = open-entities (asked p s t) (entity-tree G) .end
@@ -112,7 +112,7 @@ traced : (h : Header) (G : List VersionNode) (w : WellFormed G) (way : Way) (s t
     → check-proof (h .letter) (asked (trace-of way) s t) (commitment h G) 0 x ≡ ok r
     → (A : Agrees r (after (root h G) (open-entities (asked (trace-of way) s t) (entity-tree G)))) (u : VersionLeaf)
     → open-entities (asked (trace-of way) s t) (entity-tree G) .end ≡ SearchEnd.found u → with-trace way work r (u .leaf) ≡ ok a
-    → Faithful h G (asked (trace-of way) s t) x a ⊎ Clash (hashed-in-building h G) (hashed-in-check (trace-of way) a)
+    → Faithful h G (asked (trace-of way) s t) x a ⊎ Collision (hashed-in-building h G) (hashed-in-check (trace-of way) a)
 unfolding answer proof trace-part with-trace hashed-in-check trace-strings IsVersion
 traced h G w way s t x ox work a r er A u pe q =
     let b = bind-ok _ _ q in
@@ -134,8 +134,8 @@ traced h G w way s t x ox work a r er A u pe q =
     finish : (tr : CheckedTrace)
         → record { verdict = Verdict.found (u .leaf .time) (length (tr .records)); opened = r .opened; records = tr .records; records-start = r .pos + 5; records-length = length (r .rest) - 5 } ≡ a
         → IsSought G (asked (trace-of way) s t) (u .place) → r .rest ≡ trace-string way (tr .records) ++ tr .rest → length (tr .rest) ≡ 0
-        → (tr .records ≡ trace way G (u .place)) ⊎ Clash (hashed-in-building h G) (hashed-in-check (trace-of way) a)
-        → Faithful h G (asked (trace-of way) s t) x a ⊎ Clash (hashed-in-building h G) (hashed-in-check (trace-of way) a)
+        → (tr .records ≡ trace way G (u .place)) ⊎ Collision (hashed-in-building h G) (hashed-in-check (trace-of way) a)
+        → Faithful h G (asked (trace-of way) s t) x a ⊎ Collision (hashed-in-building h G) (hashed-in-check (trace-of way) a)
     finish tr accepted b sp nl (inr c) = inr c
     finish tr accepted b sp nl (inl k) =
         inl
@@ -160,7 +160,7 @@ by-end : (h : Header) (G : List VersionNode) (w : WellFormed G) (p : Part) (s t 
     → check-proof (h .letter) (asked p s t) (commitment h G) 0 x ≡ ok r
     → Agrees r (after (root h G) (open-entities (asked p s t) (entity-tree G)))
     → (e : SearchEnd VersionLeaf) → open-entities (asked p s t) (entity-tree G) .end ≡ e → check-end p work r (seen e) ≡ ok a
-    → Faithful h G (asked p s t) x a ⊎ Clash (hashed-in-building h G) (hashed-in-check p a)
+    → Faithful h G (asked p s t) x a ⊎ Collision (hashed-in-building h G) (hashed-in-check p a)
 unfolding check-end trace-part reached
 by-end h G w p s t x ox work a r er A SearchEnd.no-entity pe q =
     plain h G w p s t x ox work a r er A SearchEnd.no-entity pe refl Verdict.no-entity refl
@@ -174,7 +174,7 @@ by-end h G w (trace-of way) s t x ox work a r er A (SearchEnd.found u) pe q = tr
 
 sound-asked : (h : Header) (G : List VersionNode) (w : WellFormed G) (p : Part) (s t : ℕ) (x : Bytes) → Octets x → (work : ℕ) (a : Accepted)
     → run-under (h .letter) (asked p s t) (commitment h G) x work ≡ ok a
-    → Faithful h G (asked p s t) x a ⊎ Clash (hashed-in-building h G) (hashed-in-check p a)
+    → Faithful h G (asked p s t) x a ⊎ Collision (hashed-in-building h G) (hashed-in-check p a)
 unfolding run-under
 sound-asked h G w p s t x ox work a q =
     let b = past _ _ _ _ q in
@@ -183,13 +183,13 @@ sound-asked h G w p s t x ox work a q =
   where
     by-proof : (r : CheckedProof) → check-proof (h .letter) (asked p s t) (commitment h G) 0 x ≡ ok r → check-end p work r (r .end) ≡ ok a
         → Sound (hashed-in-building h G) r (after (root h G) (open-entities (asked p s t) (entity-tree G)))
-        → Faithful h G (asked p s t) x a ⊎ Clash (hashed-in-building h G) (hashed-in-check p a)
-    by-proof r er q (inr c) = inr (clash-into (opened-checked h G w p s t x ox work a r er (r .end) q) c)
+        → Faithful h G (asked p s t) x a ⊎ Collision (hashed-in-building h G) (hashed-in-check p a)
+    by-proof r er q (inr c) = inr (collision-into (opened-checked h G w p s t x ox work a r er (r .end) q) c)
     by-proof r er q (inl A) = by-end h G w p s t x ox work a r er A _ refl (ap (check-end p work r) (sym (A .ends)) ∙ q)
 
 pub soundness-over-graphs : SoundnessOverGraphs run-under
 soundness-over-graphs h G w q x ox work a e = go (q .relation) (q .part) (q .entity) (q .time) e
   where
     go : (r : Relation) (p : Part) (s t : ℕ) → run-under (h .letter) (record { relation = r; part = p; entity = s; time = t }) (commitment h G) x work ≡ ok a
-        → Faithful h G (record { relation = r; part = p; entity = s; time = t }) x a ⊎ Clash (hashed-in-building h G) (hashed-in-check p a)
+        → Faithful h G (record { relation = r; part = p; entity = s; time = t }) x a ⊎ Collision (hashed-in-building h G) (hashed-in-check p a)
     go at-or-before p s t e = sound-asked h G w p s t x ox work a e

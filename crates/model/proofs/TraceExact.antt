@@ -1,4 +1,4 @@
--- An accepted trace is the defined one, or two strings clash. Assumes nothing.
+-- An accepted trace is the defined one, or two strings collision. Assumes nothing.
 use mathlib.Core.Path.{_≡_, refl, ap, _∙_}
 use mathlib.Core.Logic.{_⊎_, inl, inr}
 use Prim.Native.Nat.{ℕ, suc, _+_, _-_, _<_}
@@ -17,7 +17,7 @@ use Rattle.model.specs.Accumulator.{Leaf, leaf-at}
 use Rattle.model.specs.Question.{Way, backward, forward, trace-of}
 use Rattle.model.specs.Trace.{trace-versions, induced-subgraph, trace}
 use Rattle.model.specs.CheckRows.{CheckedTrace, unreferenced, is-none, found-position, path-digests, leaf-digest, trace-rows, path-strings}
-use Rattle.model.specs.Exact.{Exactly, Reached, Clash}
+use Rattle.model.specs.Exact.{Exactly, Reached, Collision}
 use Rattle.model.proofs.Outcomes.{past, need-ok, and-T}
 use Rattle.model.proofs.Lists.{_among_, exactly-unique}
 use Rattle.model.proofs.Digests.{path-string-in}
@@ -90,7 +90,7 @@ module _ (G : List VersionNode) (rG : Regular G) (v : ℕ) (hv : v < length G) (
 
   pub trace-exact : {B C : List Bytes} (way : Way) → ReadRecords way (t .records) → 0 < length (t .records) → Passed way (leaf-at G (incoming-digests G) (outgoing-digests G) v) t
       → ((y : Bytes) → y among path-strings way G → y among B) → ((y : Bytes) → y among path-strings way (t .records) → y among C)
-      → (t .records ≡ trace way G v) ⊎ Clash B C
+      → (t .records ≡ trace way G v) ⊎ Collision B C
   unfolding found-position unreferenced
   trace-exact {B} {C} backward R h p inB inC =
       go (Backward.entries T G rT rG (λ i b. inB _ (path-string-in backward G i b)) (λ i b. inC _ (path-string-in backward T i b)) n v last first used)
@@ -116,8 +116,8 @@ module _ (G : List VersionNode) (rG : Regular G) (v : ℕ) (hv : v < length G) (
           let f = refers-in (0 + i) (node-at T (q .0) .in-edges) (q .2) in
           (q .0, f .0, q .1, f .1, f .2 ∙ zero-add i)
 
-      go : Clash B C ⊎ ((fs : List ℕ) × (length fs ≡ length T) × ((i : ℕ) → i < length T → Entry backward T G (λ (j : ℕ). CausalPath G j v) i (getD fs i 0)))
-          → (T ≡ trace backward G v) ⊎ Clash B C
+      go : Collision B C ⊎ ((fs : List ℕ) × (length fs ≡ length T) × ((i : ℕ) → i < length T → Entry backward T G (λ (j : ℕ). CausalPath G j v) i (getD fs i 0)))
+          → (T ≡ trace backward G v) ⊎ Collision B C
       go (inl c) = inr c
       go (inr r) =
           inl (finish backward (r .0) (Backward.exactly T G rT rG n v last first (r .0) (r .1) (r .2)) (Backward.induced T G rT rG n v last first (r .0) (r .1) (r .2)))
@@ -133,8 +133,8 @@ module _ (G : List VersionNode) (rG : Regular G) (v : ℕ) (hv : v < length G) (
       first : Matches forward T G 0 v
       first = start forward h p
 
-      go : Clash B C ⊎ ((fs : List ℕ) × (length fs ≡ length T) × ((i : ℕ) → i < length T → Entry forward T G (λ (j : ℕ). CausalPath G v j) i (getD fs i 0)))
-          → (T ≡ trace forward G v) ⊎ Clash B C
+      go : Collision B C ⊎ ((fs : List ℕ) × (length fs ≡ length T) × ((i : ℕ) → i < length T → Entry forward T G (λ (j : ℕ). CausalPath G v j) i (getD fs i 0)))
+          → (T ≡ trace forward G v) ⊎ Collision B C
       go (inl c) = inr c
       go (inr r) =
           inl (finish forward (r .0) (Forward.exactly T G rT rG v first (r .0) (r .1) (r .2)) (Forward.induced T G rT rG v first (r .0) (r .1) (r .2)))

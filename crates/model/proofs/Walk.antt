@@ -1,4 +1,4 @@
--- The proof part: an opened string with the digest due is the true string or clashes with it, so the check's walk is the defined one. One
+-- The proof part: an opened string with the digest due is the true string or collides with it, so the check's walk is the defined one. One
 -- proof over the tree: its layout, its descent and what follows its leaves. Assumes nothing.
 use mathlib.Core.Path.{_≡_, refl, sym, ap, ap₂, _∙_, subst}
 use mathlib.Core.Logic.{_⊎_, inl, inr}
@@ -17,7 +17,7 @@ use Rattle.model.specs.Numbers.{Bytes, EntityKey, entity-width, time-wid
 use Rattle.model.specs.Accumulator.{branch-width, R-width, Subtree, branch-string, parent, Tree, tip, branch, Layout, subtree, string-of, strings-of, Leaf, leaf-string, VersionLeaf, versions-layout, group-string, Group, entities-layout, Header, root-string}
 use Rattle.model.specs.Question.{at-or-before, Part, Question, SearchEnd, Descent, by-entity, by-time, Opened, stop, after, open-tree, open-versions, open-entities}
 use Rattle.model.specs.CheckRows.{take-string, CheckedProof, stopped, opening, subtree-in, chosen, leaf-in, check-tree, check-versions, check-entities, check-proof}
-use Rattle.model.specs.Exact.{Clash}
+use Rattle.model.specs.Exact.{Collision}
 use Rattle.model.proofs.Outcomes.{refuse≢ok, ok-inj, bind-ok, past, by-test, test, cond-T, cond-F}
 use Rattle.model.proofs.Strings.{H-length, Wide, none, num, text, sum, part-joined}
 use Rattle.model.proofs.Lists.{_among_}
@@ -47,8 +47,8 @@ taken letter w due pos x s p e =
       is = sym is;
     }
 
--- a string that was opened is the true one, or a clash
-true-string : {B C : List Bytes} (letter w pos : ℕ) (x s str : Bytes) → 0 < w → str among B → s among C → take-string letter w (H str) pos x ≡ ok s → (s ≡ str) ⊎ Clash B C
+-- a string that was opened is the true one, or a collision
+true-string : {B C : List Bytes} (letter w pos : ℕ) (x s str : Bytes) → 0 < w → str among B → s among C → take-string letter w (H str) pos x ≡ ok s → (s ≡ str) ⊎ Collision B C
 true-string letter w pos x s str p m k e = settle str s m k (taken letter w (H str) pos x s p e .hashes)
 
 -- ---- strings read back
@@ -139,15 +139,15 @@ pub record Agrees (r : CheckedProof) (w : Opened) : Type 0 where
   pub opens : r .opened ≡ w .opened
 
 abbrev pub Sound : List Bytes → CheckedProof → Opened → Type 0
-Sound B r w = Agrees r w ⊎ Clash B (r .opened)
+Sound B r w = Agrees r w ⊎ Collision B (r .opened)
 
-clash-more : {B C : List Bytes} (s : Bytes) → Clash B C → Clash B (s ∷ C)
-clash-more s c = record { x = c .x; y = c .y; x-built = c .x-built; y-checked = List·Memᴰ·tail (c .y-checked); differ = c .differ; one-hash = c .one-hash }
+collision-more : {B C : List Bytes} (s : Bytes) → Collision B C → Collision B (s ∷ C)
+collision-more s c = record { x = c .x; y = c .y; x-built = c .x-built; y-checked = List·Memᴰ·tail (c .y-checked); differ = c .differ; one-hash = c .one-hash }
 
 -- one string opened before a walk
 sound-after : {B : List Bytes} (s str : Bytes) (r : CheckedProof) (w : Opened) → (s ≡ str) → Sound B r w → Sound B (opening s r) (after str w)
 sound-after s str r w p (inl a) = inl (record { ends = a .ends; opens = ap₂ {C = List Bytes} (λ (h : Bytes) (l : List Bytes). h ∷ l) p (a .opens) })
-sound-after s str r w p (inr c) = inr (clash-more s c)
+sound-after s str r w p (inr c) = inr (collision-more s c)
 
 -- a string, and a walk that is sound if the string is the true one
 sound-string : {B : List Bytes} (letter w pos : ℕ) (x str : Bytes) (g : Bytes → Result CheckedProof) (v : Opened) (r : CheckedProof) → 0 < w → str among B
@@ -155,7 +155,7 @@ sound-string : {B : List Bytes} (letter w pos : ℕ) (x str : Bytes) (g : Bytes 
     → (take-string letter w (H str) pos x >>= λ s. g s >>= λ r. ok (opening s r)) ≡ ok r → Sound B r (after str v)
 sound-string {B} letter w pos x str g v r p m f q = go (bind-ok _ _ q)
   where
-    settled : (s : Bytes) (r′ : CheckedProof) → (s ≡ str) ⊎ Clash B (opening s r′ .opened) → g s ≡ ok r′ → Sound B (opening s r′) (after str v)
+    settled : (s : Bytes) (r′ : CheckedProof) → (s ≡ str) ⊎ Collision B (opening s r′ .opened) → g s ≡ ok r′ → Sound B (opening s r′) (after str v)
     settled s r′ (inr c) e = inr c
     settled s r′ (inl k) e = sound-after s str r′ v k (f r′ (ap g (sym k) ∙ e))
 
@@ -165,18 +165,18 @@ sound-string {B} letter w pos x str g v r p m f q = go (bind-ok _ _ q)
         subst (λ (z : CheckedProof). Sound B z (after str v)) (ok-inj (k .2))
         (settled (o .0) (k .0) (true-string {C = opening (o .0) (k .0) .opened} letter w pos x (o .0) str p m (List·Memᴰ·head refl) (o .1)) (k .1))
 
--- a string of another letter than the true one's was opened: a clash, whatever comes after
+-- a string of another letter than the true one's was opened: a collision, whatever comes after
 wrong-letter : {B : List Bytes} (letter w pos : ℕ) (x str : Bytes) (g : Bytes → Result CheckedProof) (r : CheckedProof) → 0 < w → (getD str 0 0 ≡ letter → ⊥) → str among B
-    → (take-string letter w (H str) pos x >>= λ s. g s >>= λ r. ok (opening s r)) ≡ ok r → Clash B (r .opened)
+    → (take-string letter w (H str) pos x >>= λ s. g s >>= λ r. ok (opening s r)) ≡ ok r → Collision B (r .opened)
 wrong-letter {B} letter w pos x str g r p ne m q = go (bind-ok _ _ q)
   where
-    go : (s : Bytes) × (take-string letter w (H str) pos x ≡ ok s) × ((g s >>= λ r. ok (opening s r)) ≡ ok r) → Clash B (r .opened)
+    go : (s : Bytes) × (take-string letter w (H str) pos x ≡ ok s) × ((g s >>= λ r. ok (opening s r)) ≡ ok r) → Collision B (r .opened)
     go o =
         let k = bind-ok _ _ (o .2) in
-        subst (λ (z : CheckedProof). Clash B (z .opened)) (ok-inj (k .2))
+        subst (λ (z : CheckedProof). Collision B (z .opened)) (ok-inj (k .2))
         (settled (true-string {C = opening (o .0) (k .0) .opened} letter w pos x (o .0) str p m (List·Memᴰ·head refl) (o .1)))
       where
-        settled : {C : List Bytes} → (o .0 ≡ str) ⊎ Clash B C → Clash B C
+        settled : {C : List Bytes} → (o .0 ≡ str) ⊎ Collision B C → Collision B C
         settled (inl e) = absurd (ne (ap (λ (l : Bytes). getD l 0 0) (sym e) ∙ taken letter w (H str) pos x (o .0) p (o .1) .starts))
         settled (inr c) = c
 
@@ -253,7 +253,7 @@ module _ {A : Type 0} (l : Layout A) (d : Descent) (e : SearchEnd VersionLeaf) (
   unfolding open-tree
   opened-branch s t h = cond-F (d .stops (subtree l (branch s t))) _ _ h
 
--- ---- the check's walk in a tree is the defined one, or two strings clash: by induction on the tree
+-- ---- the check's walk in a tree is the defined one, or two strings collision: by induction on the tree
 
 -- what follows a leaf's string is sound
 abbrev pub Follows : {A : Type 0} → Layout A → (A → Opened) → (Bytes → ℕ → ℕ → Bytes → Result CheckedProof) → List Bytes → A → Type 0

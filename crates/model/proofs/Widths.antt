@@ -1,4 +1,4 @@
--- The defined proof's length is that of its letters, and the number of strings hashed in building is 4 n + entities. Assumes nothing.
+-- The defined proof's length is that of its letters. Assumes nothing.
 use mathlib.Core.Path.{_≡_, refl, sym, ap, ap₂, _∙_, subst}
 use mathlib.Core.Logic.{_⊎_, inl, inr}
 use Prim.Native.Nat.{ℕ, _+_}

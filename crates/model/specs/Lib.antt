@@ -1,4 +1,4 @@
--- Document 01 as definitions, a module a section, in its order; `Exact` states its demand 3.
+-- Document 01 as definitions, in the order of its sections; `Result` and `Rows` come first, `WellFormed` and `Exact` (demand 3) last.
 pub mod Result
 pub mod Rows
 pub mod Numbers

@@ -1,6 +1,10 @@
 // Reading the proof of an answer: the strings that the walk through the two trees opens, rows 15 to 17. The answer may be any bytes.
 use log::EntityKey;
 use log::TimeKey;
+use model::LETTER_G;
+use model::LETTER_L;
+use model::LETTER_N;
+use model::LETTER_P;
 ghost use mathlib.Core.Path.{_≡_};
 ghost use Prim.Native.Nat.{_+_, _≤_};
 ghost use lib.ListN.{length, take, drop};
@@ -167,7 +171,7 @@ fn entity_step(answer: &[u8], at: usize, tree: EntityTreeAt, entity: EntityKey) 
     if outside(answer, tree, entity) {
         return Step::Stops;
     }
-    match open(answer, at, tree.0, 0x47, 57, 0x50) {
+    match open(answer, at, tree.0, LETTER_G, 57, LETTER_P) {
         Opening::Refused { number } => Step::Refused { number: number },
         Opening::Leaf => Step::Leaf,
         Opening::Inner => {
@@ -185,7 +189,7 @@ fn version_step(answer: &[u8], at: usize, tree: VersionTreeAt, time: TimeKey) ->
     if before(answer, tree, time) {
         return Step::Stops;
     }
-    match open(answer, at, tree.0, 0x4c, 77, 0x4e) {
+    match open(answer, at, tree.0, LETTER_L, 77, LETTER_N) {
         Opening::Refused { number } => Step::Refused { number: number },
         Opening::Leaf => Step::Leaf,
         Opening::Inner => {

@@ -21,7 +21,7 @@ use Rattle.graph.specs.Table.{node-in, version}
 use Rattle.trees.proofs.Leaves.{leaf}
 use Rattle.trees.proofs.EntityWalk.{slot-node, At, at-entry, at-slot, at-few, at-forward, at-next, here-only, ended-only, entry-is, some-version, few-versions}
 use Rattle.proof_writer.specs.declared.Latest.{Latest}
-use Rattle.proof_writer.specs.Rows.{Graphed, versions}
+use Rattle.proof_writer.specs.StoredLeaves.{Graphed, versions}
 use Rattle.proof_writer.specs.Walks.{latest-of, Counted, VersionsOf, HasVersion, FirstVersion}
 
 -- ---- the first version
@@ -138,7 +138,7 @@ pub record CountedTo (ns : List VersionNode) (x t count : ℕ) (l : Latest) (i :
   pub at : At ns x done i
   pub number : count ≡ length done
   pub counted : Counted ns t done (l .before) (l .slot)
-  pub some-row : 0 < length (of-entity x (version-leaves ns))
+  pub some-leaf : 0 < length (of-entity x (version-leaves ns))
 
 pub counted-to-none : (work : Bytes) (n : ℕ) (ns : List VersionNode) (entry t : ℕ) → Graphed work n ns → entry < n → T (is-entry (node-in work entry))
     → CountedTo ns (node-at ns entry .entity) t 0 (record { before = 0; slot = 0 }) entry
@@ -150,7 +150,7 @@ counted-to-none work n ns entry t G h u =
       at = at-entry ns entry (G .entered) l v;
       number = refl;
       counted = counted-none ns t 0;
-      some-row = some-version ns entry (G .entered) l v;
+      some-leaf = some-version ns entry (G .entered) l v;
     }
 
 module _ (work : Bytes) (n : ℕ) (ns : List VersionNode) (G : Graphed work n ns) (x t count : ℕ) (l : Latest) (i : ℕ) (C : CountedTo ns x t count l i) where
@@ -179,7 +179,7 @@ module _ (work : Bytes) (n : ℕ) (ns : List VersionNode) (G : Graphed work n ns
           number = omega (arith, C .number, length-append (C .done) (leaf ns i ∷ []));
           counted =
               counted-more ns t (C .done) i (there .0) (up-done next at (times-up ns (G .times-rise) x)) l (C .counted) l′ (e ∙ ap (λ (k : ℕ). latest-of t k i l) time);
-          some-row = C .some-row;
+          some-leaf = C .some-leaf;
         }
       where
         up-done : (next : ℕ) → At ns x (C .done ++ (leaf ns i ∷ [])) next → Up time-key (of-entity x (version-leaves ns)) → Up time-key (C .done ++ (leaf ns i ∷ []))
@@ -193,7 +193,7 @@ module _ (work : Bytes) (n : ℕ) (ns : List VersionNode) (G : Graphed work n ns
       let c : count ≡ length (of-entity x (version-leaves ns)) = C .number ∙ ap length (sym all) in
       record {
         number = c;
-        some-version = omega (arith, C .some-row);
+        some-version = omega (arith, C .some-leaf);
         few = omega (arith, few-versions x ns);
         counted = subst (λ (vs : List VersionLeaf). Counted ns t vs (l .before) (l .slot)) (sym all) (C .counted);
       }

@@ -1,4 +1,4 @@
--- A descent in the tree of leaves in a row: where it stands, half by half, and the strings opened on the way. One proof over layout and
+-- A descent in the tree of stored leaves: where it stands, half by half, and the strings opened on the way. One proof over layout and
 -- descent. Assumes nothing.
 use mathlib.Core.Path.{_≡_, refl, sym, ap, ap₂, _∙_, subst}
 use mathlib.Core.Bool.{Bool, true, false, cond, not}
@@ -22,7 +22,7 @@ use Rattle.graph.proofs.Strings.{joined-append}
 use Rattle.accumulator.specs.Halves.{subtree-of, path-to}
 use Rattle.accumulator.proofs.Splitting.{split-bounds, subtree-of-tree, map-take, map-drop}
 use Rattle.accumulator.proofs.Opening.{path-none, path-two}
-use Rattle.proof_writer.specs.Rows.{own}
+use Rattle.proof_writer.specs.StoredLeaves.{own}
 use Rattle.proof_writer.specs.Walks.{half-of, onto, Walked}
 
 onto-none : (w : Opened) → onto [] w ≡ w

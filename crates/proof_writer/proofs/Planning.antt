@@ -25,11 +25,11 @@ use Rattle.proof_writer.specs.declared.Sought.the-variants.{Absent, Pres
 use Rattle.proof_writer.specs.declared.Versions.{Versions}
 use Rattle.proof_writer.specs.declared.Planned.{Planned}
 use Rattle.proof_writer.specs.declared.Planned.the-variants.{NoEntity, NotYet, Found}
-use Rattle.proof_writer.specs.Rows.{Graphed, HasGraph, own, RowsOf, groups, versions, version-at, EntityRows}
+use Rattle.proof_writer.specs.StoredLeaves.{Graphed, HasGraph, own, LeavesStored, groups, versions, version-at, EntityLeavesStored}
 use Rattle.proof_writer.specs.Walks.{onto, AbsentIs, PresentIs, EntitySought, Nearest, DepthIs, Counted, VersionsOf, HasVersion, FirstVersion}
 use Rattle.proof_writer.specs.Plans.{entity-path, entity-string, version-path, path-of, walk-of, PathFits, EntryIs, RestIs, Asks, PlanIs, Plan, HasEntity, Reaches}
 use Rattle.proof_writer.proofs.Descents.{way-none, way-least, way-stopped}
-use Rattle.proof_writer.proofs.Laying.{graphed-kept}
+use Rattle.proof_writer.proofs.StoringLeaves.{graphed-kept}
 
 -- ---- the version that enters an entity
 
@@ -147,19 +147,19 @@ unfolding open-entities entity-tree groups
 asked q x t ns A =
     λ i. open-tree entities-layout (by-entity (A .entity i)) SearchEnd.no-entity (λ (g : Group). open-versions (A .relation i) (A .time i) (g .versions)) (entity-tree ns)
 
-module _ (work work′ : Bytes) (ns : List VersionNode) (count : ℕ) (E : EntityRows work work′ ns count) (target depth : ℕ) (inside : target < length (groups ns)) (shallow : depth ≤ length (groups ns)) where
+module _ (work work′ : Bytes) (ns : List VersionNode) (count : ℕ) (E : EntityLeavesStored work work′ ns count) (target depth : ℕ) (inside : target < length (groups ns)) (shallow : depth ≤ length (groups ns)) where
   abbrev path : EntityPath
   path = record { count = count; target = target; depth = depth }
 
   path-fits : PathFits work′ path
-  path-fits = record { laid = E .laid; inside = omega (arith, E .rows .number); shallow = omega (arith, E .rows .number, E .laid .few) }
+  path-fits = record { has-leaves = E .has-leaves; inside = omega (arith, E .stored .number); shallow = omega (arith, E .stored .number, E .has-leaves .few) }
 
   pub plan-absent : (x t length : ℕ) → AbsentIs x (groups ns) target depth → length ≡ 65 + 97 * depth → PlanIs work′ ns x t (NoEntity length path)
   unfolding path-of RestIs walk-of entity-path
   plan-absent x t length A e =
       let W = A .walked (λ (g : Group). open-versions at-or-before t (g .versions)) in
       record {
-        path = record { fits = path-fits; rows = E .rows; long = W .long };
+        path = record { fits = path-fits; stored = E .stored; long = W .long };
         rest = e;
         is = λ q B. asked q x t ns B ∙ W .is;
       }
@@ -178,7 +178,7 @@ module _ (work work′ : Bytes) (ns : List VersionNode) (count : ℕ) (E : Entit
     reaches =
         let here : getD (groups ns) target no-group ≡ group (version-leaves ns) x = leaf-is ∙ ap (group (version-leaves ns)) name-is in
         record {
-          path = record { fits = path-fits; rows = E .rows; long = P .walked (λ (g : Group). stop SearchEnd.no-entity) .long };
+          path = record { fits = path-fits; stored = E .stored; long = P .walked (λ (g : Group). stop SearchEnd.no-entity) .long };
           is = λ q t B.
               asked q x t ns B
               ∙ P .walked (λ (g : Group). open-versions at-or-before t (g .versions)) .is
@@ -207,44 +207,44 @@ module _ (work work′ : Bytes) (ns : List VersionNode) (count : ℕ) (E : Entit
 pub kept-back : (cs : List Columns) (a b : Bytes) → Kept cs a b → Kept cs b a
 kept-back cs a b K = record { size = sym (K .size); same = λ j k w t. sym (K .same j k w t) }
 
-module _ (work work′ : Bytes) (n count : ℕ) (H : HasGraph work n) (rows : (ns : List VersionNode) → Graphed work n ns → EntityRows work work′ ns count) where
+module _ (work work′ : Bytes) (n count : ℕ) (H : HasGraph work n) (stored : (ns : List VersionNode) → Graphed work n ns → EntityLeavesStored work work′ ns count) where
   pub plan-kept : Kept (columns 84 124 ∷ []) work work′
-  plan-kept = rows (H .ns) (H .graphed) .kept
+  plan-kept = stored (H .ns) (H .graphed) .kept
 
-  rows-at : (ns : List VersionNode) → Graphed work′ n ns → EntityRows work work′ ns count
-  rows-at ns G = rows ns (graphed-kept (columns 84 124 ∷ []) work′ work n ns (kept-back (columns 84 124 ∷ []) work work′ plan-kept) tt tt tt tt G)
+  stored-leaves-at : (ns : List VersionNode) → Graphed work′ n ns → EntityLeavesStored work work′ ns count
+  stored-leaves-at ns G = stored ns (graphed-kept (columns 84 124 ∷ []) work′ work n ns (kept-back (columns 84 124 ∷ []) work work′ plan-kept) tt tt tt tt G)
 
   graph-after : Graphed work′ n (H .ns)
   graph-after = graphed-kept (columns 84 124 ∷ []) work work′ n (H .ns) plan-kept tt tt tt tt (H .graphed)
 
-  module _ (x : ℕ) (r : Sought) (sought : (gs : List Group) → RowsOf entities-layout work′ gs count → EntitySought x gs r) (target depth : ℕ) where
+  module _ (x : ℕ) (r : Sought) (sought : (gs : List Group) → LeavesStored entities-layout work′ gs count → EntitySought x gs r) (target depth : ℕ) where
     absent-at : r ≡ Absent target depth → (ns : List VersionNode) → Graphed work′ n ns → AbsentIs x (groups ns) target depth
     unfolding EntitySought
-    absent-at e ns G = subst (EntitySought x (groups ns)) e (sought (groups ns) (rows-at ns G .rows))
+    absent-at e ns G = subst (EntitySought x (groups ns)) e (sought (groups ns) (stored-leaves-at ns G .stored))
 
     present-at : r ≡ Present target depth → (ns : List VersionNode) → Graphed work′ n ns → PresentIs x (groups ns) target depth
     unfolding EntitySought
-    present-at e ns G = subst (EntitySought x (groups ns)) e (sought (groups ns) (rows-at ns G .rows))
+    present-at e ns G = subst (EntitySought x (groups ns)) e (sought (groups ns) (stored-leaves-at ns G .stored))
 
     pub absent-shallow : r ≡ Absent target depth → depth ≤ 65535
     absent-shallow e =
-        let E = rows-at (H .ns) graph-after in
-        omega (arith, absent-at e (H .ns) graph-after .shallow, E .rows .number, E .laid .few)
+        let E = stored-leaves-at (H .ns) graph-after in
+        omega (arith, absent-at e (H .ns) graph-after .shallow, E .stored .number, E .has-leaves .few)
 
     pub planned-absent : r ≡ Absent target depth → (t length : ℕ) → length ≡ 65 + 97 * depth
         → Plan work′ n x t (NoEntity length (record { count = count; target = target; depth = depth }))
     planned-absent e t length h =
         record {
-          of = λ ns G. let A = absent-at e ns G in plan-absent work work′ ns count (rows-at ns G) target depth (A .inside) (A .shallow) x t length A h;
+          of = λ ns G. let A = absent-at e ns G in plan-absent work work′ ns count (stored-leaves-at ns G) target depth (A .inside) (A .shallow) x t length A h;
         }
 
     pub present-ready : r ≡ Present target depth → HasEntity work′ n x × (depth ≤ 65535)
     present-ready e =
-        let E = rows-at (H .ns) graph-after in
+        let E = stored-leaves-at (H .ns) graph-after in
         let P = present-at e (H .ns) graph-after in
-        (has-entity work work′ (H .ns) count E target depth (P .inside) (P .shallow) x P n graph-after, omega (arith, P .shallow, E .rows .number, E .laid .few))
+        (has-entity work work′ (H .ns) count E target depth (P .inside) (P .shallow) x P n graph-after, omega (arith, P .shallow, E .stored .number, E .has-leaves .few))
 
     pub planned-present : r ≡ Present target depth → (t : ℕ) (p : Planned)
         → ((ns : List VersionNode) → Graphed work′ n ns → Reaches work′ ns x (record { count = count; target = target; depth = depth }) → PlanIs work′ ns x t p) → Plan work′ n x t p
     planned-present e t p f =
-        record { of = λ ns G. let P = present-at e ns G in f ns G (reaches work work′ ns count (rows-at ns G) target depth (P .inside) (P .shallow) x P) }
+        record { of = λ ns G. let P = present-at e ns G in f ns G (reaches work work′ ns count (stored-leaves-at ns G) target depth (P .inside) (P .shallow) x P) }

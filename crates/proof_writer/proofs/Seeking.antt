@@ -1,4 +1,4 @@
--- The walk to an entity by the keys of rows, and the way to a version by its place. Assumes nothing.
+-- The walk to an entity by the keys of leaves, and the way to a version by its place. Assumes nothing.
 use mathlib.Core.Path.{_≡_, refl, sym, ap, ap₂, _∙_, subst}
 use mathlib.Core.Logic.{_⊎_, inl, inr}
 use mathlib.Core.Bool.{Bool, true, false, not, _||_}
@@ -15,29 +15,29 @@ use Rattle.model.specs.Numbers.{Bytes}
 use Rattle.model.specs.Accumulator.{Subtree as Known, tip, Layout, subtree, largest-power-below, tree, VersionLeaf, versions-layout, no-leaf, Group, entities-layout, no-group}
 use Rattle.model.specs.Question.{SearchEnd, by-entity, by-time, at-or-before, Opened, stop}
 use Rattle.model.proofs.Lists.{map-at}
-use Rattle.accumulator.specs.Halves.{no-known, leaf-in, leaves-in}
+use Rattle.accumulator.specs.Halves.{no-known, stored-leaf, stored-leaves}
 use Rattle.accumulator.proofs.Splitting.{split-bounds}
 use Rattle.proof_writer.specs.declared.Span.{Span}
 use Rattle.proof_writer.specs.declared.Sought.the-variants.{Absent, Present}
-use Rattle.proof_writer.specs.Rows.{key-in, own, RowsOf}
+use Rattle.proof_writer.specs.StoredLeaves.{key-in, own, LeavesStored}
 use Rattle.proof_writer.specs.Walks.{Among, half-of, EntitySought, Nearest, VersionAt, DepthIs}
 use Rattle.proof_writer.proofs.Descents.{Way, way-none, way-least, way-greatest, way-stopped, way-leaf, turns-left, left-greatest, right-least, way-half}
 
--- ---- rows
+-- ---- leaves
 
-leaves-at : (m : Bytes) (i n j : ℕ) → j < n → getD (leaves-in m 84 128 i n) j no-known ≡ leaf-in m (84 + 128 * (i + j))
-unfolding leaves-in
+leaves-at : (m : Bytes) (i n j : ℕ) → j < n → getD (stored-leaves m 84 128 i n) j no-known ≡ stored-leaf m (84 + 128 * (i + j))
+unfolding stored-leaves
 leaves-at m i zero j h = absurd (let z : ⊥ = omega arith in z)
-leaves-at m i (suc n) zero h = ap (λ (k : ℕ). leaf-in m (84 + 128 * k)) (sym (add-zero i))
-leaves-at m i (suc n) (suc j) h = leaves-at m (suc i) n j (omega arith) ∙ ap (λ (k : ℕ). leaf-in m (84 + 128 * k)) (suc-add i j ∙ sym (add-suc i j))
+leaves-at m i (suc n) zero h = ap (λ (k : ℕ). stored-leaf m (84 + 128 * k)) (sym (add-zero i))
+leaves-at m i (suc n) (suc j) h = leaves-at m (suc i) n j (omega arith) ∙ ap (λ (k : ℕ). stored-leaf m (84 + 128 * k)) (suc-add i j ∙ sym (add-suc i j))
 
-pub row-key : {A : Type 0} (l : Layout A) (a : A) (work : Bytes) (xs : List A) (count i : ℕ) → RowsOf l work xs count → i < count → key-in work i ≡ l .key (getD xs i a)
-unfolding key-in leaf-in own subtree
-row-key {A} l a work xs count i R h =
+pub stored-key : {A : Type 0} (l : Layout A) (a : A) (work : Bytes) (xs : List A) (count i : ℕ) → LeavesStored l work xs count → i < count → key-in work i ≡ l .key (getD xs i a)
+unfolding key-in stored-leaf own subtree
+stored-key {A} l a work xs count i R h =
     ap (field 8 work) (let z : 128 * i + 84 ≡ 84 + 128 * (0 + i) = omega arith in z)
     ∙ ap (λ (k : Known). k .least)
     (sym (leaves-at work 0 count i h)
-    ∙ ap (λ (ks : List Known). getD ks i no-known) (R .rows)
+    ∙ ap (λ (ks : List Known). getD ks i no-known) (R .stored)
     ∙ map-at (λ (x : A). subtree l (tip x)) xs i no-known a (omega (arith, R .number)))
 
 -- ---- halves
@@ -104,7 +104,7 @@ EntityWay s f gs from n depth = Way entities-layout (by-entity s) SearchEnd.no-e
 pub record Seeking (work : Bytes) (count s : ℕ) (span : Span) (depth : ℕ) : Type 0 where
   pub among : Among count span
   pub deep : span .n + depth ≤ count
-  pub way : (gs : List Group) → RowsOf entities-layout work gs count → (f : Group → Opened) → EntityWay s f gs (span .from) (span .n) depth
+  pub way : (gs : List Group) → LeavesStored entities-layout work gs count → (f : Group → Opened) → EntityWay s f gs (span .from) (span .n) depth
 
 pub seeking-none : (work : Bytes) (count s : ℕ) → 0 < count → count ≤ 65535 → Seeking work count s (record { from = 0; n = count }) 0
 seeking-none work count s h g =
@@ -116,12 +116,12 @@ seeking-none work count s h g =
 
 module _ (work : Bytes) (count s : ℕ) (span : Span) (depth : ℕ) (S : Seeking work count s span depth) (b : Bool)
     (tested : b ≡ (ltb s (key-in work (span .from)) || ltb (key-in work (span .from + (span .n - 1))) s)) where
-  module _ (gs : List Group) (R : RowsOf entities-layout work gs count) (f : Group → Opened) where
+  module _ (gs : List Group) (R : LeavesStored entities-layout work gs count) (f : Group → Opened) where
     abbrev W : EntityWay s f gs (span .from) (span .n) depth
     W = S .way gs R f
 
     key : (i : ℕ) → i < count → key-in work i ≡ getD gs i no-group .entity
-    key i h = row-key entities-layout no-group work gs count i R h
+    key i h = stored-key entities-layout no-group work gs count i R h
 
     stops-is : by-entity s .stops (subtree entities-layout (tree no-group (W .part))) ≡ b
     unfolding by-entity
@@ -141,7 +141,7 @@ module _ (work : Bytes) (count s : ℕ) (span : Span) (depth : ℕ) (S : Seeking
         (left-greatest entities-layout (by-entity s) SearchEnd.no-entity f no-group gs (span .from) (span .n) depth W more on
         ∙ sym (key (span .from + (largest-power-below (span .n) - 1)) (omega (arith, k .1, S .among .inside, S .among .some-leaf))))
 
-  pub seeking-absent : b ≡ true → (gs : List Group) → RowsOf entities-layout work gs count → EntitySought s gs (Absent (span .from) depth)
+  pub seeking-absent : b ≡ true → (gs : List Group) → LeavesStored entities-layout work gs count → EntitySought s gs (Absent (span .from) depth)
   unfolding EntitySought
   seeking-absent h gs R =
       record {
@@ -160,7 +160,7 @@ module _ (work : Bytes) (count s : ℕ) (span : Span) (depth : ℕ) (S : Seeking
           never e = cc
       go false p q = omega (arith, ltb-false s x p, ltb-false y s q)
 
-  pub seeking-present : b ≡ false → span .n ≤ 1 → (gs : List Group) → RowsOf entities-layout work gs count → EntitySought s gs (Present (span .from) depth)
+  pub seeking-present : b ≡ false → span .n ≤ 1 → (gs : List Group) → LeavesStored entities-layout work gs count → EntitySought s gs (Present (span .from) depth)
   unfolding EntitySought
   seeking-present h g gs R =
       let inside : span .from < count = omega (arith, S .among .inside, S .among .some-leaf) in
@@ -169,7 +169,7 @@ module _ (work : Bytes) (count s : ℕ) (span : Span) (depth : ℕ) (S : Seeking
         inside = omega (arith, R .number);
         shallow = omega (arith, S .deep, R .number);
         entity =
-            sym (row-key entities-layout no-group work gs count (span .from) R inside)
+            sym (stored-key entities-layout no-group work gs count (span .from) R inside)
             ∙ equal (key-in work (span .from)) (key-in work (span .from + (span .n - 1))) (sym tested ∙ h) (ap (key-in work) one);
         walked = λ f. way-leaf entities-layout (by-entity s) SearchEnd.no-entity f no-group gs (span .from) (span .n) depth (S .way gs R f) g (stops-is gs R f ∙ h);
       }

@@ -21,7 +21,7 @@ use Rattle.graph.proofs.Nodes.{map-length, node-kept}
 use Rattle.graph.proofs.Strings.{joined-append}
 use Rattle.accumulator.specs.declared.Subtree.{Subtree}
 use Rattle.accumulator.specs.Trees.{known, leafOf, headerOf}
-use Rattle.accumulator.specs.Halves.{subtree-of, leaves-in, path-to, Rows, PathPut}
+use Rattle.accumulator.specs.Halves.{subtree-of, stored-leaves, path-to, LeavesFit, PathPut}
 use Rattle.accumulator.proofs.Splitting.{subtree-of-tree}
 use Rattle.accumulator.proofs.Strings.{then}
 use Rattle.accumulator.proofs.Opening.{path-none}
@@ -30,21 +30,21 @@ use Rattle.trees.proofs.EntityWalk.{slot-node, slot-leaf-is, some-version}
 use Rattle.proof_writer.specs.declared.EntityPath.{EntityPath}
 use Rattle.proof_writer.specs.declared.Planned.{Planned}
 use Rattle.proof_writer.specs.declared.Planned.the-variants.{NoEntity, NotYet, Found}
-use Rattle.proof_writer.specs.Rows.{Graphed, HasGraph, own, RowsOf, Laid, groups, versions, version-at, VersionRows}
+use Rattle.proof_writer.specs.StoredLeaves.{Graphed, HasGraph, own, LeavesStored, HasLeaves, groups, versions, version-at, VersionLeavesStored}
 use Rattle.proof_writer.specs.Walks.{onto}
 use Rattle.proof_writer.specs.Plans.{entity-path, entity-string, version-path, path-of, length-of, walk-of, PathFits, PathIs, EntryIs, FoundIs, RestIs, Asks, PlanIs, Plan, HasPlan, EntityFits, EntityPut, front-bytes}
 use Rattle.proof_writer.proofs.Descents.{digest-32}
-use Rattle.proof_writer.proofs.Laying.{graphed-kept}
+use Rattle.proof_writer.proofs.StoringLeaves.{graphed-kept}
 
 -- ---- a string and the path behind it
 
-laid-rows : (work : Bytes) (count : ℕ) → Laid work count → Rows work 84 128 0 count
-laid-rows work count L = record { some = L .some-row; apart = omega arith; room = omega (arith, L .some-row, L .room) }
+has-leaves-stored : (work : Bytes) (count : ℕ) → HasLeaves work count → LeavesFit work 84 128 0 count
+has-leaves-stored work count L = record { some = L .some-leaf; apart = omega arith; room = omega (arith, L .some-leaf, L .room) }
 
-row-tree : {A : Type 0} (l : Layout A) (a : A) (work : Bytes) (xs : List A) (count : ℕ) → RowsOf l work xs count → 0 < count
-    → subtree-of (l .inner-letter) (leaves-in work 84 128 0 count) ≡ subtree l (tree a xs)
+stored-tree : {A : Type 0} (l : Layout A) (a : A) (work : Bytes) (xs : List A) (count : ℕ) → LeavesStored l work xs count → 0 < count
+    → subtree-of (l .inner-letter) (stored-leaves work 84 128 0 count) ≡ subtree l (tree a xs)
 unfolding own
-row-tree l a work xs count R h = ap (subtree-of (l .inner-letter)) (R .rows) ∙ subtree-of-tree l a xs (omega (arith, R .number))
+stored-tree l a work xs count R h = ap (subtree-of (l .inner-letter)) (R .stored) ∙ subtree-of-tree l a xs (omega (arith, R .number))
 
 string-then-path : (letter : ℕ) (ks ls : List Known) (i j depth : ℕ) (out out1 out2 a : Bytes) (at m w : ℕ) (k : Known) → PathPut letter ks i depth out out1 m k → ks ≡ ls → i ≡ j
     → out2 ≡ written out1 at a → length a ≡ w → m ≡ at + w → m + 97 * depth ≤ length out → out2 ≡ written out at (a ++ joined (path-to letter ls j depth))
@@ -55,55 +55,55 @@ string-then-path letter ks ls i j depth out out1 out2 a at m w k P e f g h q r =
 
 -- ---- R and P
 
-pub front-rows : (work : Bytes) (p : EntityPath) (room : ℕ) → PathFits work p → 65 + 97 * p .depth ≤ room
-    → Rows work 84 128 0 (p .count) × (0 ≤ p .target) × (p .target < 0 + p .count) × (65 + 97 * p .depth ≤ room)
-front-rows work p room F h = (laid-rows work (p .count) (F .laid), omega arith, omega (arith, F .inside), h)
+pub front-stored : (work : Bytes) (p : EntityPath) (room : ℕ) → PathFits work p → 65 + 97 * p .depth ≤ room
+    → LeavesFit work 84 128 0 (p .count) × (0 ≤ p .target) × (p .target < 0 + p .count) × (65 + 97 * p .depth ≤ room)
+front-stored work p room F h = (has-leaves-stored work (p .count) (F .has-leaves), omega arith, omega (arith, F .inside), h)
 
 pub front-is : (work : Bytes) (n : ℕ) (ns : List VersionNode) (last : TimeKey) (p : EntityPath) (out out1 out2 : Bytes) (k : Subtree) → PathIs work ns p
-    → PathPut 0x50 (leaves-in work 84 128 0 (p .count)) (p .target - 0) (p .depth) out out1 65 (known k) → out2 ≡ written out1 0 (root-string (headerOf n last) (p .count) (known k))
+    → PathPut 0x50 (stored-leaves work 84 128 0 (p .count)) (p .target - 0) (p .depth) out out1 65 (known k) → out2 ≡ written out1 0 (root-string (headerOf n last) (p .count) (known k))
     → 65 + 97 * p .depth ≤ length out → out2 ≡ written out 0 (joined (root (headerOf n last) ns ∷ entity-path ns p))
 unfolding root entity-path groups entity-tree
 front-is work n ns last p out out1 out2 k I P e h =
-    let t : known k ≡ subtree entities-layout (entity-tree ns) = P .root ∙ row-tree entities-layout no-group work (groups ns) (p .count) (I .rows) (I .fits .laid .some-row) in
-    let c : p .count ≡ length (entities ns) = I .rows .number ∙ map-length (group (version-leaves ns)) (entities ns) in
-    string-then-path 0x50 (leaves-in work 84 128 0 (p .count)) (own entities-layout (groups ns)) (p .target - 0) (p .target) (p .depth) out out1 out2 _ 0 65 65 (known k) P (I .rows .rows) (let z : p .target - 0 ≡ p .target = omega arith in z)
+    let t : known k ≡ subtree entities-layout (entity-tree ns) = P .root ∙ stored-tree entities-layout no-group work (groups ns) (p .count) (I .stored) (I .fits .has-leaves .some-leaf) in
+    let c : p .count ≡ length (entities ns) = I .stored .number ∙ map-length (group (version-leaves ns)) (entities ns) in
+    string-then-path 0x50 (stored-leaves work 84 128 0 (p .count)) (own entities-layout (groups ns)) (p .target - 0) (p .target) (p .depth) out out1 out2 _ 0 65 65 (known k) P (I .stored .stored) (let z : p .target - 0 ≡ p .target = omega arith in z)
     (e ∙ ap₂ (λ (m : ℕ) (u : Known). written out1 0 (root-string (headerOf n last) m u)) c t)
     (root-length (headerOf n last) (length (entities ns)) (subtree entities-layout (entity-tree ns)) (digest-32 entities-layout no-group (entity-tree ns))) (omega arith) h
 
 -- ---- G and N
 
 module _ (work work′ : Bytes) (n entry index depth at : ℕ) (out : Bytes) (E : EntityFits work n entry index depth (length out) at) (count : ℕ)
-    (rows : (ns : List VersionNode) → Graphed work n ns → VersionRows work work′ ns (node-at ns entry .entity) count) where
-  pub entity-rows : Rows work′ 84 128 0 count × (0 ≤ index) × (index < 0 + count) × (at + 57 + 97 * depth ≤ length out)
-  entity-rows =
-      let L = rows (E .graph .ns) (E .graph .graphed) in
-      (laid-rows work′ count (L .laid), omega arith, omega (arith, E .index-inside (E .graph .ns) (E .graph .graphed), L .rows .number), E .space)
+    (stored : (ns : List VersionNode) → Graphed work n ns → VersionLeavesStored work work′ ns (node-at ns entry .entity) count) where
+  pub entity-stored : LeavesFit work′ 84 128 0 count × (0 ≤ index) × (index < 0 + count) × (at + 57 + 97 * depth ≤ length out)
+  entity-stored =
+      let L = stored (E .graph .ns) (E .graph .graphed) in
+      (has-leaves-stored work′ count (L .has-leaves), omega arith, omega (arith, E .index-inside (E .graph .ns) (E .graph .graphed), L .stored .number), E .space)
 
   pub entity-kept : Kept (columns 84 124 ∷ []) work work′
-  entity-kept = rows (E .graph .ns) (E .graph .graphed) .kept
+  entity-kept = stored (E .graph .ns) (E .graph .graphed) .kept
 
   pub entity-slot : 128 * entry + 128 ≤ length work′
   entity-slot = let G = E .graph .graphed in omega (arith, E .inside, G .digested .room, G .number, entity-kept .size)
 
-  pub entity-is : (e : EntityKey) (k : Subtree) (out1 out2 : Bytes) → e .0 ≡ field 4 work′ (128 * entry + 72) → PathPut 0x4e (leaves-in work′ 84 128 0 count) (index - 0) depth out out1 (at + 57) (known k)
+  pub entity-is : (e : EntityKey) (k : Subtree) (out1 out2 : Bytes) → e .0 ≡ field 4 work′ (128 * entry + 72) → PathPut 0x4e (stored-leaves work′ 84 128 0 count) (index - 0) depth out out1 (at + 57) (known k)
       → out2 ≡ written out1 at (group-string (e .0) (known k))
       → (ns : List VersionNode) → Graphed work n ns → EntityPut ns (node-at ns entry .entity) index depth out out2 at
   unfolding entity-string version-path group versions node-in version
   entity-is e k out1 out2 q P g ns G =
-      let L = rows ns G in
+      let L = stored ns G in
       let x = node-at ns entry .entity in
       let name : e .0 ≡ x =
       q ∙ ap (λ (m : VersionNode). m .entity) (node-kept (columns 84 124 ∷ []) work work′ entity-kept tt entry ∙ slot-node work ns entry (G .digested) (omega (arith, E .inside, G .number))) in
-      let t : known k ≡ subtree versions-layout (tree no-leaf (versions ns x)) = P .root ∙ row-tree versions-layout no-leaf work′ (versions ns x) count (L .rows) (L .laid .some-row) in
+      let t : known k ≡ subtree versions-layout (tree no-leaf (versions ns x)) = P .root ∙ stored-tree versions-layout no-leaf work′ (versions ns x) count (L .stored) (L .has-leaves .some-leaf) in
       let same : index - 0 ≡ index = omega arith in
       record {
         strings =
-            string-then-path 0x4e (leaves-in work′ 84 128 0 count) (own versions-layout (versions ns x)) (index - 0) index depth out out1 out2 _ at (at + 57) 57 (known k) P (L .rows .rows) same
+            string-then-path 0x4e (stored-leaves work′ 84 128 0 count) (own versions-layout (versions ns x)) (index - 0) index depth out out1 out2 _ at (at + 57) 57 (known k) P (L .stored .stored) same
             (g ∙ ap₂ (λ (m : ℕ) (u : Known). written out1 at (group-string m u)) name t)
             (group-length x (subtree versions-layout (tree no-leaf (versions ns x))) (digest-32 versions-layout no-leaf (tree no-leaf (versions ns x)))) refl (E .space);
         short =
-            subst (λ (ks : List Known). length (joined (path-to 0x4e ks index depth)) ≤ 97 * depth) (L .rows .rows)
-            (subst (λ (i : ℕ). length (joined (path-to 0x4e (leaves-in work′ 84 128 0 count) i depth)) ≤ 97 * depth) same (P .short));
+            subst (λ (ks : List Known). length (joined (path-to 0x4e ks index depth)) ≤ 97 * depth) (L .stored .stored)
+            (subst (λ (i : ℕ). length (joined (path-to 0x4e (stored-leaves work′ 84 128 0 count) i depth)) ≤ 97 * depth) same (P .short));
       }
 
 -- ---- L

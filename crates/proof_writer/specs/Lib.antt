@@ -1,4 +1,4 @@
 -- What the contracts of this crate cite.
-pub mod Rows
+pub mod StoredLeaves
 pub mod Walks
 pub mod Plans

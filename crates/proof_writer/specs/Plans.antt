@@ -14,7 +14,7 @@ use Rattle.accumulator.specs.Halves.{path-to}
 use Rattle.proof_writer.specs.declared.EntityPath.{EntityPath}
 use Rattle.proof_writer.specs.declared.Planned.{Planned}
 use Rattle.proof_writer.specs.declared.Planned.the-variants.{NoEntity, NotYet, Found}
-use Rattle.proof_writer.specs.Rows.{Graphed, HasGraph, own, RowsOf, Laid, groups, versions, version-at}
+use Rattle.proof_writer.specs.StoredLeaves.{Graphed, HasGraph, own, LeavesStored, HasLeaves, groups, versions, version-at}
 use Rattle.proof_writer.specs.Walks.{onto}
 
 -- ---- strings
@@ -63,15 +63,15 @@ walk-of ns x (Found length p entry slot index depth) =
     (after (entity-string ns x)
     (onto (version-path ns x index depth) (after (leaf-string (version-at ns slot .leaf)) (stop (SearchEnd.found (version-at ns slot))))))
 
--- there are rows, and the way leads to one of them; the rows are those of the entities
+-- there are leaves, and the way leads to one of them; the leaves are those of the entities
 pub record PathFits (work : Bytes) (p : EntityPath) : Type 0 where
-  pub laid : Laid work (p .count)
+  pub has-leaves : HasLeaves work (p .count)
   pub inside : p .target < p .count
   pub shallow : p .depth ≤ 65535
 
 pub record PathIs (work : Bytes) (ns : List VersionNode) (p : EntityPath) : Type 0 where
   pub fits : PathFits work p
-  pub rows : RowsOf entities-layout work (groups ns) (p .count)
+  pub stored : LeavesStored entities-layout work (groups ns) (p .count)
   pub long : length (joined (entity-path ns p)) ≡ 97 * p .depth
 
 -- the version that enters entity x

@@ -1,4 +1,4 @@
--- The walks through the two trees, over leaves in a row: the half in which a walk goes on, and where it ends. Assumes nothing.
+-- The walks through the two trees, over stored leaves: the half in which a walk goes on, and where it ends. Assumes nothing.
 use mathlib.Core.Path.{_≡_}
 use mathlib.Core.Bool.{Bool, cond}
 use mathlib.Core.List.{List, _++_}
@@ -16,7 +16,7 @@ use Rattle.proof_writer.specs.declared.Sought.{Sought}
 use Rattle.proof_writer.specs.declared.Sought.the-variants.{Absent, Present}
 use Rattle.proof_writer.specs.declared.Latest.{Latest}
 use Rattle.proof_writer.specs.declared.Versions.{Versions}
-use Rattle.proof_writer.specs.Rows.{own, version-at, versions}
+use Rattle.proof_writer.specs.StoredLeaves.{own, version-at, versions}
 
 -- ---- halves
 

@@ -5,6 +5,8 @@ use accumulator::VersionTree;
 use graph::NO_SLOT;
 use log::EntityKey;
 use log::TimeKey;
+use model::LETTER_N;
+use model::LETTER_P;
 ghost use mathlib.Core.Path.{_≡_};
 ghost use mathlib.Core.Bool.{_||_};
 ghost use mathlib.Core.List.{List, [], _∷_, _++_};
@@ -19,16 +21,16 @@ ghost use Rattle.model.specs.Question.{Question};
 ghost use Rattle.model.specs.Answer.{proof};
 ghost use Rattle.graph.specs.Table.{node-in, columns, Kept};
 ghost use Rattle.accumulator.specs.Trees.{headerOf};
-ghost use Rattle.proof_writer.specs.Rows.{Graphed, HasGraph, key-in, RowPut, RowsOf, Laid, EntityRows, VersionRows, version-at};
+ghost use Rattle.proof_writer.specs.StoredLeaves.{Graphed, HasGraph, key-in, LeafStored, LeavesStored, HasLeaves, EntityLeavesStored, VersionLeavesStored, version-at};
 ghost use Rattle.proof_writer.specs.Walks.{Among, half-of, EntitySought, DepthIs, latest-of, VersionsOf, HasVersion, FirstVersion};
 ghost use Rattle.proof_writer.specs.Plans.{entity-path, front-bytes, FoundIs, length-of, PathFits, PathIs, Asks, PlanIs, Plan, HasEntity, Reaches, HasPlan, EntityFits, EntityPut};
 
-// ---- rows of leaves
+// ---- stored leaves
 
-// A leaf's key and digest to row i.
-fn put_row(work: &mut [u8], i: usize, k: Subtree)
+// Stores a leaf, its key and its digest, in slot i.
+fn store_leaf(work: &mut [u8], i: usize, k: Subtree)
     requires { ⌜ 128 * i + 128 ≤ length (now work) ⌝ }
-    ensures { λ _. ⌜ RowPut (now (work .entry)) (now (work .exit)) i (k .least) (k .digest) ⌝ }
+    ensures { λ _. ⌜ LeafStored (now (work .entry)) (now (work .exit)) i (k .least) (k .digest) ⌝ }
 {
     let digest = k.digest;
     fields::put_u64(work, 128 * i + 84, k.least);
@@ -38,13 +40,13 @@ fn put_row(work: &mut [u8], i: usize, k: Subtree)
 // The leaves of the tree of entities, and how many there are.
 fn put_entity_leaves(work: &mut [u8], n: usize) -> usize
     requires { ⌜ HasGraph (now work) n ⌝ }
-    ensures { λ r. ⌜ ((ns : List VersionNode) → Graphed (now (work .entry)) n ns → EntityRows (now (work .entry)) (now (work .exit)) ns r) ⌝ }
+    ensures { λ r. ⌜ ((ns : List VersionNode) → Graphed (now (work .entry)) n ns → EntityLeavesStored (now (work .entry)) (now (work .exit)) ns r) ⌝ }
 {
     let mut e: usize = 0;
     let mut i = trees::next_entry(work, 0, n);
     while i < n {
         let leaf = trees::entity_leaf(work, i, n);
-        put_row(work, e, leaf.0);
+        store_leaf(work, e, leaf.0);
         e += 1;
         i = trees::next_entry(work, i + 1, n);
     }
@@ -54,13 +56,13 @@ fn put_entity_leaves(work: &mut [u8], n: usize) -> usize
 // The leaves of an entity's tree, from the version that enters it on, and how many there are.
 fn put_version_leaves(work: &mut [u8], entry: usize, n: usize) -> usize
     requires { ⌜ HasGraph (now work) n × (entry < n) × T (is-entry (node-in (now work) entry)) ⌝ }
-    ensures { λ r. ⌜ ((ns : List VersionNode) → Graphed (now (work .entry)) n ns → VersionRows (now (work .entry)) (now (work .exit)) ns (node-at ns entry .entity) r) ⌝ }
+    ensures { λ r. ⌜ ((ns : List VersionNode) → Graphed (now (work .entry)) n ns → VersionLeavesStored (now (work .entry)) (now (work .exit)) ns (node-at ns entry .entity) r) ⌝ }
 {
     let mut count: usize = 0;
     let mut i = entry;
     while i < NO_SLOT {
         let leaf = trees::leaf_of(work, i);
-        put_row(work, count, leaf.0);
+        store_leaf(work, count, leaf.0);
         count += 1;
         i = graph::get_next(work, i) as usize;
     }
@@ -84,7 +86,7 @@ struct Span {
 
 // Whether an entity lies outside the keys of a subtree.
 fn outside(work: &[u8], span: Span, entity: EntityKey, count: usize) -> bool
-    requires { ⌜ Laid (now work) count × Among count span ⌝ }
+    requires { ⌜ HasLeaves (now work) count × Among count span ⌝ }
     ensures { λ r. ⌜ r ≡ (ltb (entity .0) (key-in (now (work .entry)) (span .from)) || ltb (key-in (now (work .entry)) (span .from + (span .n - 1))) (entity .0)) ⌝ }
 {
     if entity.below(key_at(work, span.from)) {
@@ -95,7 +97,7 @@ fn outside(work: &[u8], span: Span, entity: EntityKey, count: usize) -> bool
 
 // The half in which an entity is sought: the left one if the entity is at most its greatest key.
 fn entity_half(work: &[u8], span: Span, entity: EntityKey, count: usize) -> Span
-    requires { ⌜ Laid (now work) count × Among count span × (1 < span .n) ⌝ }
+    requires { ⌜ HasLeaves (now work) count × Among count span × (1 < span .n) ⌝ }
     ensures { λ r. ⌜ r ≡ half-of span (leb (entity .0) (key-in (now (work .entry)) (span .from + (largest-power-below (span .n) - 1)))) ⌝ }
 {
     let k = accumulator::split(span.n);
@@ -141,8 +143,8 @@ enum Sought {
 }
 
 fn seek_entity(work: &[u8], count: usize, entity: EntityKey) -> Sought
-    requires { ⌜ Laid (now work) count ⌝ }
-    ensures { λ r. ⌜ ((gs : List Group) → RowsOf entities-layout (now (work .entry)) gs count → EntitySought (entity .0) gs r) ⌝ }
+    requires { ⌜ HasLeaves (now work) count ⌝ }
+    ensures { λ r. ⌜ ((gs : List Group) → LeavesStored entities-layout (now (work .entry)) gs count → EntitySought (entity .0) gs r) ⌝ }
 {
     let mut span = Span { from: 0, n: count };
     let mut depth: usize = 0;
@@ -299,7 +301,7 @@ fn plan_entity(work: &[u8], n: usize, path: EntityPath, entity: EntityKey, time:
     }
 }
 
-// Lays the leaves of the entities in rows and plans the proof.
+// Stores the leaves of the entities and plans the proof.
 pub fn plan(work: &mut [u8], n: usize, entity: EntityKey, time: TimeKey) -> Planned
     requires { ⌜ HasGraph (now work) n ⌝ }
     ensures plan { λ r. ⌜ Plan (now (work .exit)) n (entity .0) (time .0) r ⌝ }
@@ -356,7 +358,7 @@ fn put_front(work: &[u8], n: usize, last: TimeKey, path: EntityPath, out: &mut [
 {
     let count = path.count;
     let tree = accumulator::put_path(
-        0x50,
+        LETTER_P,
         work,
         84,
         128,
@@ -370,7 +372,7 @@ fn put_front(work: &[u8], n: usize, last: TimeKey, path: EntityPath, out: &mut [
     accumulator::put_root(out, 0, count as u32, n as u32, last, EntityTree(tree));
 }
 
-// G of the entity that a version enters, and the strings N on the way to a leaf of its tree. Lays the leaves of its versions in rows.
+// G of the entity that a version enters, and the strings N on the way to a leaf of its tree. Stores the leaves of its versions.
 fn put_entity(
     work: &mut [u8],
     n: usize,
@@ -385,7 +387,18 @@ fn put_entity(
     ensures kept { λ _. ⌜ Kept (columns 84 124 ∷ []) (now (work .entry)) (now (work .exit)) ⌝ }
 {
     let count = put_version_leaves(work, entry, n);
-    let tree = accumulator::put_path(0x4e, work, 84, 128, 0, count, index, depth, out, at + 57);
+    let tree = accumulator::put_path(
+        LETTER_N,
+        work,
+        84,
+        128,
+        0,
+        count,
+        index,
+        depth,
+        out,
+        at + 57,
+    );
     let entity = graph::entity_of(work, entry);
     accumulator::put_group(out, at, entity, VersionTree(tree));
 }
@@ -439,7 +452,7 @@ fn put_found(
     put_version(work, n, slot, out, 122 + 97 * path.depth + 97 * depth);
 }
 
-// Writes the proof that was planned. Behind it, the rows hold other leaves.
+// Writes the proof that was planned. After it, other leaves are stored than before.
 pub fn write(plan: Planned, work: &mut [u8], n: usize, last: TimeKey, out: &mut [u8])
     requires { ⌜ HasPlan (now work) n plan × (length-of plan ≤ length (now out)) ⌝ }
     ensures proof { λ _. ⌜ ((x t : ℕ) → Plan (now (work .entry)) n x t plan → (ns : List VersionNode) → Graphed (now (work .entry)) n ns → (q : Question) → Asks q x t → now (out .exit) ≡ written (now (out .entry)) 0 (joined (proof (headerOf n last) ns q .opened))) ⌝ }

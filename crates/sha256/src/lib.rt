@@ -154,25 +154,25 @@ fn one_round(v: [u32; 8], k: u32, w: u32) -> [u32; 8]
     ]
 }
 
-fn one_turn(v: [u32; 8], w: &[u32; 64], k: &[u32; 64], t: usize) -> [u32; 8]
+fn round_at(v: [u32; 8], w: &[u32; 64], k: &[u32; 64], t: usize) -> [u32; 8]
     requires { ⌜ t < 64 ⌝ }
     ensures { λ r. ⌜ ((h : List ℕ) → v ≡ rounds t (now (k .entry)) (now (w .entry)) h → r ≡ rounds (t + 1) (now (k .entry)) (now (w .entry)) h) ⌝ }
 {
     one_round(v, k[t], w[t])
 }
 
-fn eight_turns(v: [u32; 8], w: &[u32; 64], k: &[u32; 64], t: usize) -> [u32; 8]
+fn eight_rounds(v: [u32; 8], w: &[u32; 64], k: &[u32; 64], t: usize) -> [u32; 8]
     requires { ⌜ t + 8 ≤ 64 ⌝ }
     ensures { λ r. ⌜ ((h : List ℕ) → v ≡ rounds t (now (k .entry)) (now (w .entry)) h → r ≡ rounds (t + 8) (now (k .entry)) (now (w .entry)) h) ⌝ }
 {
-    let v1 = one_turn(v, w, k, t);
-    let v2 = one_turn(v1, w, k, t + 1);
-    let v3 = one_turn(v2, w, k, t + 2);
-    let v4 = one_turn(v3, w, k, t + 3);
-    let v5 = one_turn(v4, w, k, t + 4);
-    let v6 = one_turn(v5, w, k, t + 5);
-    let v7 = one_turn(v6, w, k, t + 6);
-    one_turn(v7, w, k, t + 7)
+    let v1 = round_at(v, w, k, t);
+    let v2 = round_at(v1, w, k, t + 1);
+    let v3 = round_at(v2, w, k, t + 2);
+    let v4 = round_at(v3, w, k, t + 3);
+    let v5 = round_at(v4, w, k, t + 4);
+    let v6 = round_at(v5, w, k, t + 5);
+    let v7 = round_at(v6, w, k, t + 6);
+    round_at(v7, w, k, t + 7)
 }
 
 // What the word sixteen places on has of the words 7, 15 and 16 places before it, and then all of it.
@@ -255,7 +255,7 @@ fn compressed(h: [u32; 8], m: &[u8], at: usize) -> [u32; 8]
     let mut v = h;
     let mut t: usize = 0;
     while t < 64 {
-        let next = eight_turns(v, &w, &k, t);
+        let next = eight_rounds(v, &w, &k, t);
         v = next;
         t += 8;
     }

@@ -9,6 +9,11 @@ use graph::put_node;
 use graph::trace_letter;
 use log::EntityKey;
 use log::TimeKey;
+use model::LETTER_D;
+use model::LETTER_E;
+use model::LETTER_S;
+use model::LETTER_T;
+use model::LETTER_V;
 ghost use mathlib.Core.Path.{_≡_};
 ghost use mathlib.Core.Bool.{true, _||_};
 ghost use mathlib.Core.List.{[]};
@@ -40,12 +45,12 @@ fn forward_due(i: usize, letter: u8) -> bool
     ensures { λ r. ⌜ r ≡ due forward i letter ⌝ }
 {
     if i == 0 {
-        return letter == 0x53;
+        return letter == LETTER_S;
     }
-    if letter == 0x54 {
+    if letter == LETTER_T {
         return true;
     }
-    either(letter, 0x44, 0x56)
+    either(letter, LETTER_D, LETTER_V)
 }
 
 // Row 16: whether a letter is one due for the i-th record; in B this is E or V at every place.
@@ -53,7 +58,7 @@ fn letter_due(way: Way, i: usize, letter: u8) -> bool
     ensures { λ r. ⌜ r ≡ due (wayOf way) i letter ⌝ }
 {
     match way {
-        Way::Backward => either(letter, 0x45, 0x56),
+        Way::Backward => either(letter, LETTER_E, LETTER_V),
         Way::Forward => forward_due(i, letter),
     }
 }
@@ -62,13 +67,13 @@ fn letter_due(way: Way, i: usize, letter: u8) -> bool
 fn width_of(letter: u8) -> usize
     ensures { λ r. ⌜ r ≡ letter-width letter ⌝ }
 {
-    if letter == 0x56 {
+    if letter == LETTER_V {
         return 22;
     }
-    if letter == 0x44 {
+    if letter == LETTER_D {
         return 18;
     }
-    if letter == 0x54 {
+    if letter == LETTER_T {
         return 17;
     }
     13
@@ -90,16 +95,16 @@ fn positions_below(answer: &[u8], at: usize, letter: u8, i: usize) -> bool
     requires { ⌜ at + letter-width letter ≤ length (now answer) ⌝ }
     ensures { λ r. ⌜ r ≡ all-below i (shown-edges letter (drop at (now (answer .entry)))) ⌝ }
 {
-    if letter == 0x56 {
+    if letter == LETTER_V {
         if below(answer, at + 14, i) {
             return below(answer, at + 18, i);
         }
         return false;
     }
-    if letter == 0x44 {
+    if letter == LETTER_D {
         return below(answer, at + 14, i);
     }
-    if letter == 0x54 {
+    if letter == LETTER_T {
         return below(answer, at + 13, i);
     }
     true
@@ -200,18 +205,18 @@ fn put_shown(answer: &[u8], at: usize, letter: u8, work: &mut [u8], i: usize)
     requires { ⌜ (at + letter-width letter ≤ length (now answer)) × (all-below i (shown-edges letter (drop at (now answer))) ≡ true) × (i ≤ absent) × (128 * i + 128 ≤ length (now work)) ⌝ }
     ensures { λ _. ⌜ NodePut (now (work .entry)) (now (work .exit)) i (shown-record letter (drop at (now (answer .entry)))) ⌝ }
 {
-    if letter == 0x56 {
+    if letter == LETTER_V {
         let previous = start_at(answer, at + 14);
         let source = start_at(answer, at + 18);
         put_version(answer, at, work, i, previous, source, answer[at + 13]);
         return;
     }
-    if letter == 0x44 {
+    if letter == LETTER_D {
         let source = start_at(answer, at + 14);
         put_version(answer, at, work, i, ABSENT, source, answer[at + 13]);
         return;
     }
-    if letter == 0x54 {
+    if letter == LETTER_T {
         let previous = start_at(answer, at + 13);
         put_version(answer, at, work, i, previous, ABSENT, 0);
         return;

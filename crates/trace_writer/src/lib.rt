@@ -12,6 +12,11 @@ use marks::clear_marks;
 use marks::mark_starts;
 use marks::marked;
 use marks::set_mark;
+use model::LETTER_D;
+use model::LETTER_E;
+use model::LETTER_S;
+use model::LETTER_T;
+use model::LETTER_V;
 ghost use mathlib.Core.Path.{_≡_};
 ghost use mathlib.Core.Bool.{cond};
 ghost use mathlib.Core.List.{[], _∷_};
@@ -42,7 +47,7 @@ fn begin(work: &mut [u8], n: usize, v: usize)
 // ---- the versions that reach the found one
 
 // Marks the starts of a slot's edges, if the slot is marked.
-fn spread(work: &mut [u8], i: usize)
+fn mark_starts_if_marked(work: &mut [u8], i: usize)
     requires { ⌜ Starts (now work) i ⌝ }
     ensures { λ _. ⌜ Spread (now (work .entry)) (now (work .exit)) i ⌝ }
 {
@@ -62,7 +67,7 @@ fn mark_backward(work: &mut [u8], n: usize, v: usize)
     let mut i = v;
     while 0 < i {
         i -= 1;
-        spread(work, i);
+        mark_starts_if_marked(work, i);
     }
 }
 
@@ -214,8 +219,8 @@ fn entry_letter(way: Way) -> u8
     ensures { λ r. ⌜ r ≡ entry-letter (wayOf way) ⌝ }
 {
     match way {
-        Way::Backward => 0x45,
-        Way::Forward => 0x53,
+        Way::Backward => LETTER_E,
+        Way::Forward => LETTER_S,
     }
 }
 
@@ -250,7 +255,7 @@ fn put_temporal(work: &[u8], i: usize, previous: u16, out: &mut [u8], at: usize)
     requires { ⌜ (128 * i + 128 ≤ length (now work)) × (128 * previous + 128 ≤ length (now work)) × (at + 17 ≤ length (now out)) ⌝ }
     ensures { λ _. ⌜ RecordPut (now (work .entry)) i (temporal (rank-in (now (work .entry)) previous) ∷ []) (now (out .entry)) (now (out .exit)) at ⌝ }
 {
-    put_name(0x54, work, i, out, at);
+    put_name(LETTER_T, work, i, out, at);
     put_position(work, previous, out, at + 13);
 }
 
@@ -259,7 +264,7 @@ fn put_dependency(work: &[u8], i: usize, source: u16, out: &mut [u8], at: usize)
     requires { ⌜ (128 * i + 128 ≤ length (now work)) × (128 * source + 128 ≤ length (now work)) × (at + 18 ≤ length (now out)) ⌝ }
     ensures { λ _. ⌜ RecordPut (now (work .entry)) i (dependency (field 1 (now (work .entry)) (128 * i + 80)) (rank-in (now (work .entry)) source) ∷ []) (now (out .entry)) (now (out .exit)) at ⌝ }
 {
-    put_name(0x44, work, i, out, at);
+    put_name(LETTER_D, work, i, out, at);
     put_kind(work, i, out, at + 13);
     put_position(work, source, out, at + 14);
 }
@@ -269,7 +274,7 @@ fn put_both(work: &[u8], i: usize, previous: u16, source: u16, out: &mut [u8], a
     requires { ⌜ (128 * i + 128 ≤ length (now work)) × (128 * previous + 128 ≤ length (now work)) × (128 * source + 128 ≤ length (now work)) × (at + 22 ≤ length (now out)) ⌝ }
     ensures { λ _. ⌜ RecordPut (now (work .entry)) i (temporal (rank-in (now (work .entry)) previous) ∷ dependency (field 1 (now (work .entry)) (128 * i + 80)) (rank-in (now (work .entry)) source) ∷ []) (now (out .entry)) (now (out .exit)) at ⌝ }
 {
-    put_name(0x56, work, i, out, at);
+    put_name(LETTER_V, work, i, out, at);
     put_kind(work, i, out, at + 13);
     put_position(work, previous, out, at + 14);
     put_position(work, source, out, at + 18);

@@ -1,5 +1,5 @@
 use borrow.Author.Needs.{needs}
-use Rattle.proof_writer.specs.Rows.{key-in}
+use Rattle.proof_writer.specs.StoredLeaves.{key-in}
 use Rattle.proof_writer.proofs.key_at.Statement.{statement}
 use Rattle.proof_writer.proofs.key_at.Tie as tie
 

@@ -11,7 +11,7 @@ put-entity-leaves-requires c κs = search needs
 seek-entity-requires : tie.Need-seek-entity-requires
 seek-entity-requires c κs =
     let s = c .before .before .before .before .before .before in
-    c .before .before .before .put-entity-leaves .ensures (s .pre .ns) (s .pre .graphed) .laid
+    c .before .before .before .put-entity-leaves .ensures (s .pre .ns) (s .pre .graphed) .has-leaves
 
 enum-known-target : tie.Need-enum-known-target
 enum-known-target c = search needs
@@ -19,17 +19,17 @@ enum-known-target c = search needs
 mul-t17 : tie.Need-mul-t17
 mul-t17 c =
     let s = c .before .before .before .before .before .before .before .before .before .before in
-    let rows = c .before .before .before .before .before .before .before .put-entity-leaves .ensures in
+    let stored = c .before .before .before .before .before .before .before .put-entity-leaves .ensures in
     let sought = c .before .before .before .seek-entity .ensures in
-    let few = absent-shallow (now (s .args .work)) _ _ _ (s .pre) rows _ _ sought _ _ (c .before .target .given .1) in
+    let few = absent-shallow (now (s .args .work)) _ _ _ (s .pre) stored _ _ sought _ _ (c .before .target .given .1) in
     search needs
 
 add-t18 : tie.Need-add-t18
 add-t18 c =
     let s = c .before .before .before .before .before .before .before .before .before .before in
-    let rows = c .before .before .before .before .before .before .before .put-entity-leaves .ensures in
+    let stored = c .before .before .before .before .before .before .before .put-entity-leaves .ensures in
     let sought = c .before .before .before .seek-entity .ensures in
-    let few = absent-shallow (now (s .args .work)) _ _ _ (s .pre) rows _ _ sought _ _ (c .before .target .given .1) in
+    let few = absent-shallow (now (s .args .work)) _ _ _ (s .pre) stored _ _ sought _ _ (c .before .target .given .1) in
     search needs
 
 enum-known-target-2 : tie.Need-enum-known-target-2
@@ -38,9 +38,9 @@ enum-known-target-2 c = search needs
 plan-entity-requires : tie.Need-plan-entity-requires
 plan-entity-requires c κs =
     let s = c .before .before .before .before .before .before .before .before .before .before .before in
-    let rows = c .before .before .before .before .before .before .before .before .put-entity-leaves .ensures in
+    let stored = c .before .before .before .before .before .before .before .before .put-entity-leaves .ensures in
     let sought = c .before .before .before .before .seek-entity .ensures in
-    present-ready (now (s .args .work)) _ _ _ (s .pre) rows _ _ sought _ _ (c .before .before .target2 .given .1)
+    present-ready (now (s .args .work)) _ _ _ (s .pre) stored _ _ sought _ _ (c .before .before .target2 .given .1)
 
 same-length : tie.Need-same-length
 same-length c = search needs
@@ -48,9 +48,9 @@ same-length c = search needs
 returns : tie.Need-returns
 returns c =
     let s = c .before .before .before .before .before .before .before .before .before .before in
-    let rows = c .before .before .before .before .before .before .before .put-entity-leaves .ensures in
+    let stored = c .before .before .before .before .before .before .before .put-entity-leaves .ensures in
     let sought = c .before .before .before .seek-entity .ensures in
-    (planned-absent (now (s .args .work)) _ _ _ (s .pre) rows _ _ sought _ _ (c .before .target .given .1) _ _ refl, plan-kept (now (s .args .work)) _ _ _ (s .pre) rows)
+    (planned-absent (now (s .args .work)) _ _ _ (s .pre) stored _ _ sought _ _ (c .before .target .given .1) _ _ refl, plan-kept (now (s .args .work)) _ _ _ (s .pre) stored)
 
 same-length-2 : tie.Need-same-length-2
 same-length-2 c = search needs
@@ -58,9 +58,9 @@ same-length-2 c = search needs
 returns-2 : tie.Need-returns-2
 returns-2 c =
     let s = c .before .before .before .before .before .before .before .before .before .before .before .before in
-    let rows = c .before .before .before .before .before .before .before .before .before .put-entity-leaves .ensures in
+    let stored = c .before .before .before .before .before .before .before .before .before .put-entity-leaves .ensures in
     let sought = c .before .before .before .before .before .seek-entity .ensures in
-    (planned-present (now (s .args .work)) _ _ _ (s .pre) rows _ _ sought _ _ (c .before .before .before .target2 .given .1) _ _ (c .plan-entity .ensures), plan-kept (now (s .args .work)) _ _ _ (s .pre) rows)
+    (planned-present (now (s .args .work)) _ _ _ (s .pre) stored _ _ sought _ _ (c .before .before .before .target2 .given .1) _ _ (c .plan-entity .ensures), plan-kept (now (s .args .work)) _ _ _ (s .pre) stored)
 
 pub plan-spec : {M : Type 1} → statement M
 plan-spec =

@@ -1,6 +1,6 @@
 use borrow.Author.Needs.{needs}
 use denote.Ref.{now}
-use Rattle.proof_writer.proofs.Writing.{entity-rows, entity-slot, entity-is, entity-kept}
+use Rattle.proof_writer.proofs.Writing.{entity-stored, entity-slot, entity-is, entity-kept}
 use Rattle.proof_writer.proofs.put_entity.Statement.{statement}
 use Rattle.proof_writer.proofs.put_entity.Tie as tie
 
@@ -18,14 +18,14 @@ add-put-path c =
 put-path-requires : tie.Need-put-path-requires
 put-path-requires c κs =
     let s = c .before .before .before .before .before .before .before .before in
-    let rows = c .before .before .before .before .put-version-leaves .ensures in
-    entity-rows (now (s .args .work)) _ _ _ _ _ _ (now (s .args .out)) (s .pre) _ rows
+    let stored = c .before .before .before .before .put-version-leaves .ensures in
+    entity-stored (now (s .args .work)) _ _ _ _ _ _ (now (s .args .out)) (s .pre) _ stored
 
 entity-of-requires : tie.Need-entity-of-requires
 entity-of-requires c κs =
     let s = c .before .before .before .before .before .before .before .before .before .before .before .before in
-    let rows = c .before .before .before .before .before .before .before .before .put-version-leaves .ensures in
-    entity-slot (now (s .args .work)) _ _ _ _ _ _ (now (s .args .out)) (s .pre) _ rows
+    let stored = c .before .before .before .before .before .before .before .before .put-version-leaves .ensures in
+    entity-slot (now (s .args .work)) _ _ _ _ _ _ (now (s .args .out)) (s .pre) _ stored
 
 put-group-requires : tie.Need-put-group-requires
 put-group-requires c κs =
@@ -42,8 +42,8 @@ same-length-2 c = search needs
 returns : tie.Need-returns
 returns c =
     let s = c .before .before .before .before .before .before .before .before .before .before .before .before .before .before .before .before .before in
-    let rows = c .before .before .before .before .before .before .before .before .before .before .before .before .before .put-version-leaves .ensures in
-    (entity-is (now (s .args .work)) _ _ _ _ _ _ (now (s .args .out)) (s .pre) _ rows _ _ _ _ (c .before .before .before .before .entity-of .ensures) (c .before .before .before .before .before .before .before .before .put-path .ensures) (c .before .before .put-group .ensures), entity-kept (now (s .args .work)) _ _ _ _ _ _ (now (s .args .out)) (s .pre) _ rows)
+    let stored = c .before .before .before .before .before .before .before .before .before .before .before .before .before .put-version-leaves .ensures in
+    (entity-is (now (s .args .work)) _ _ _ _ _ _ (now (s .args .out)) (s .pre) _ stored _ _ _ _ (c .before .before .before .before .entity-of .ensures) (c .before .before .before .before .before .before .before .before .put-path .ensures) (c .before .before .put-group .ensures), entity-kept (now (s .args .work)) _ _ _ _ _ _ (now (s .args .out)) (s .pre) _ stored)
 
 pub put-entity-spec : {M : Type 1} → statement M
 put-entity-spec =

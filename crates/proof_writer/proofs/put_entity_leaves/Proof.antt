@@ -4,13 +4,13 @@ use denote.Ref.{now}
 use mathlib.Core.List.{List}
 use Prim.Native.Nat.{_-_}
 use Rattle.model.specs.Graph.{VersionNode}
-use Rattle.proof_writer.specs.Rows.{Graphed}
-use Rattle.proof_writer.proofs.Laying.{EntitiesLaid, entities-laid-none, entities-ready, entities-room, entities-few, entities-size, entities-laid-more, entities-laid-all}
+use Rattle.proof_writer.specs.StoredLeaves.{Graphed}
+use Rattle.proof_writer.proofs.StoringLeaves.{EntitiesStored, entities-stored-none, entities-ready, entities-room, entities-few, entities-size, entities-stored-more, entities-stored-all}
 use Rattle.proof_writer.proofs.put_entity_leaves.Statement.{statement}
 use Rattle.proof_writer.proofs.put_entity_leaves.Tie as tie
 
 abbrev Inv-loop : tie.InvT-loop
-Inv-loop work₀ n e₀ i₀ work e i = (ns : List VersionNode) → Graphed work₀ n ns → EntitiesLaid work₀ work ns e i
+Inv-loop work₀ n e₀ i₀ work e i = (ns : List VersionNode) → Graphed work₀ n ns → EntitiesStored work₀ work ns e i
 
 abbrev μ-loop : tie.MeasureT-loop
 μ-loop work₀ n e₀ i₀ work e i = n - i
@@ -21,7 +21,7 @@ next-entry-requires c κs =
     (omega arith, omega (arith, G .number, G .digested .room))
 
 loop-holds : tie.Need-loop-holds Inv-loop μ-loop
-loop-holds c = λ ns G. entities-laid-none _ _ ns _ G (c .next-entry .ensures)
+loop-holds c = λ ns G. entities-stored-none _ _ ns _ G (c .next-entry .ensures)
 
 entity-leaf-requires : tie.Need-entity-leaf-requires Inv-loop μ-loop
 entity-leaf-requires c κs =
@@ -31,8 +31,8 @@ entity-leaf-requires c κs =
     let E = l .inv (R .ns) (R .graphed) in
     entities-ready (now (s .args .work)) _ _ (R .ns) _ _ (R .graphed) E (c .before .loop-test .taken)
 
-put-row-requires : tie.Need-put-row-requires Inv-loop μ-loop
-put-row-requires c κs =
+store-leaf-requires : tie.Need-store-leaf-requires Inv-loop μ-loop
+store-leaf-requires c κs =
     let s = c .before .before .before .before .before .before .before .before in
     let R = s .pre in
     let l = c .before .before .before .before .loop in
@@ -61,7 +61,7 @@ next-entry-requires-2 c κs =
     let l = c .before .before .before .before .before .before .before .before .loop in
     let E = l .inv (R .ns) (R .graphed) in
     let z = entities-size (now (s .args .work)) _ _ (R .ns) _ _ (R .graphed) E in
-    let y = c .before .before .before .put-row .ensures .kept .size in
+    let y = c .before .before .before .store-leaf .ensures .kept .size in
     (omega (arith, c .before .before .before .before .before .before .before .loop-test .taken), omega (arith, R .graphed .number, R .graphed .digested .room))
 
 loop-less : tie.Need-loop-less Inv-loop μ-loop
@@ -74,7 +74,7 @@ loop-again c =
     let s = c .before .before .before .before .before .before .before .before .before .before .before .before .before in
     let l = c .before .before .before .before .before .before .before .before .before .loop in
     λ ns G.
-    entities-laid-more (now (s .args .work)) _ _ ns _ _ G (l .inv ns G) (c .before .before .before .before .before .before .before .before .loop-test .taken) _ (c .before .before .before .before .before .before .entity-leaf .ensures) _ (c .before .before .before .before .put-row .ensures) _ (c .next-entry2 .ensures)
+    entities-stored-more (now (s .args .work)) _ _ ns _ _ G (l .inv ns G) (c .before .before .before .before .before .before .before .before .loop-test .taken) _ (c .before .before .before .before .before .before .entity-leaf .ensures) _ (c .before .before .before .before .store-leaf .ensures) _ (c .next-entry2 .ensures)
 
 same-length : tie.Need-same-length Inv-loop μ-loop
 same-length c =
@@ -87,7 +87,7 @@ same-length c =
 returns : tie.Need-returns Inv-loop μ-loop
 returns c =
     let s = c .before .before .before .before .before in
-    λ ns G. entities-laid-all (now (s .args .work)) _ _ ns _ _ G (c .before .loop .inv ns G) (c .loop-test .left)
+    λ ns G. entities-stored-all (now (s .args .work)) _ _ ns _ _ G (c .before .loop .inv ns G) (c .loop-test .left)
 
 pub put-entity-leaves-spec : {M : Type 1} → statement M
 put-entity-leaves-spec =
@@ -98,7 +98,7 @@ put-entity-leaves-spec =
     next-entry-requires
     loop-holds
     entity-leaf-requires
-    put-row-requires
+    store-leaf-requires
     add-e
     add-next-entry
     next-entry-requires-2

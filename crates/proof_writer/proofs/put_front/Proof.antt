@@ -1,19 +1,19 @@
 use borrow.Author.Needs.{needs}
 use native.Mathlib.Omega.{arith}
 use denote.Ref.{now}
-use Rattle.proof_writer.proofs.Writing.{front-rows, front-is}
+use Rattle.proof_writer.proofs.Writing.{front-stored, front-is}
 use Rattle.proof_writer.proofs.put_front.Statement.{statement}
 use Rattle.proof_writer.proofs.put_front.Tie as tie
 
 put-path-requires : tie.Need-put-path-requires
 put-path-requires c κs =
     let s = c .before .before .before in
-    front-rows (now (s .args .work)) (s .args .path) _ (s .pre .1) (s .pre .2)
+    front-stored (now (s .args .work)) (s .args .path) _ (s .pre .1) (s .pre .2)
 
 cast-put-root : tie.Need-cast-put-root
 cast-put-root c =
     let F = c .before .before .before .before .before .before .before .pre .1 in
-    omega (arith, F .laid .few)
+    omega (arith, F .has-leaves .few)
 
 cast-put-root-2 : tie.Need-cast-put-root-2
 cast-put-root-2 c =

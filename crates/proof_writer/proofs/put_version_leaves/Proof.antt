@@ -4,19 +4,19 @@ use denote.Ref.{now}
 use mathlib.Core.List.{List}
 use Prim.Native.Nat.{_-_}
 use Rattle.model.specs.Graph.{VersionNode, node-at}
-use Rattle.proof_writer.specs.Rows.{Graphed}
-use Rattle.proof_writer.proofs.Laying.{VersionsLaid, versions-laid-none, versions-slot, versions-room, versions-forward, versions-laid-more, versions-laid-all}
+use Rattle.proof_writer.specs.StoredLeaves.{Graphed}
+use Rattle.proof_writer.proofs.StoringLeaves.{VersionsStored, versions-stored-none, versions-slot, versions-room, versions-forward, versions-stored-more, versions-stored-all}
 use Rattle.proof_writer.proofs.put_version_leaves.Statement.{statement}
 use Rattle.proof_writer.proofs.put_version_leaves.Tie as tie
 
 abbrev Inv-loop : tie.InvT-loop
-Inv-loop work₀ entry n count₀ i₀ work count i = (ns : List VersionNode) → Graphed work₀ n ns → VersionsLaid work₀ work ns (node-at ns entry .entity) count i
+Inv-loop work₀ entry n count₀ i₀ work count i = (ns : List VersionNode) → Graphed work₀ n ns → VersionsStored work₀ work ns (node-at ns entry .entity) count i
 
 abbrev μ-loop : tie.MeasureT-loop
 μ-loop work₀ entry n count₀ i₀ work count i = 65535 - i
 
 loop-holds : tie.Need-loop-holds Inv-loop μ-loop
-loop-holds c = λ ns G. versions-laid-none _ _ ns _ G (c .before .pre .1) (c .before .pre .2)
+loop-holds c = λ ns G. versions-stored-none _ _ ns _ G (c .before .pre .1) (c .before .pre .2)
 
 leaf-of-requires : tie.Need-leaf-of-requires Inv-loop μ-loop
 leaf-of-requires c κs =
@@ -26,8 +26,8 @@ leaf-of-requires c κs =
     let E = l .inv (R .ns) (R .graphed) in
     versions-slot (now (s .args .work)) _ _ (R .ns) _ _ _ (R .graphed) E (c .before .loop-test .taken)
 
-put-row-requires : tie.Need-put-row-requires Inv-loop μ-loop
-put-row-requires c κs =
+store-leaf-requires : tie.Need-store-leaf-requires Inv-loop μ-loop
+store-leaf-requires c κs =
     let s = c .before .before .before .before .before .before in
     let R = s .pre .0 in
     let l = c .before .before .before .before .loop in
@@ -50,7 +50,7 @@ get-next-requires c κs =
     let l = c .before .before .before .before .before .before .before .before .loop in
     let E = l .inv (R .ns) (R .graphed) in
     let z = versions-slot (now (s .args .work)) _ _ (R .ns) _ _ _ (R .graphed) E (c .before .before .before .before .before .before .before .loop-test .taken) in
-    omega (arith, c .before .before .before .put-row .ensures .kept .size)
+    omega (arith, c .before .before .before .store-leaf .ensures .kept .size)
 
 cast-i : tie.Need-cast-i Inv-loop μ-loop
 cast-i c = search needs
@@ -61,7 +61,7 @@ loop-less c =
     let R = s .pre .0 in
     let l = c .before .before .before .before .before .before .before .before .before .loop in
     let E = l .inv (R .ns) (R .graphed) in
-    let g = versions-forward (now (s .args .work)) _ _ (R .ns) _ _ _ (R .graphed) E (c .before .before .before .before .before .before .before .before .loop-test .taken) _ (c .before .before .before .before .before .before .leaf-of .ensures) _ (c .before .before .before .before .put-row .ensures) _ (c .get-next .ensures) in
+    let g = versions-forward (now (s .args .work)) _ _ (R .ns) _ _ _ (R .graphed) E (c .before .before .before .before .before .before .before .before .loop-test .taken) _ (c .before .before .before .before .before .before .leaf-of .ensures) _ (c .before .before .before .before .store-leaf .ensures) _ (c .get-next .ensures) in
     omega arith
 
 loop-again : tie.Need-loop-again Inv-loop μ-loop
@@ -69,7 +69,7 @@ loop-again c =
     let s = c .before .before .before .before .before .before .before .before .before .before .before in
     let l = c .before .before .before .before .before .before .before .before .before .loop in
     λ ns G.
-    versions-laid-more (now (s .args .work)) _ _ ns _ _ _ G (l .inv ns G) (c .before .before .before .before .before .before .before .before .loop-test .taken) _ (c .before .before .before .before .before .before .leaf-of .ensures) _ (c .before .before .before .before .put-row .ensures) _ (c .get-next .ensures)
+    versions-stored-more (now (s .args .work)) _ _ ns _ _ _ G (l .inv ns G) (c .before .before .before .before .before .before .before .before .loop-test .taken) _ (c .before .before .before .before .before .before .leaf-of .ensures) _ (c .before .before .before .before .store-leaf .ensures) _ (c .get-next .ensures)
 
 same-length : tie.Need-same-length Inv-loop μ-loop
 same-length c =
@@ -82,7 +82,7 @@ same-length c =
 returns : tie.Need-returns Inv-loop μ-loop
 returns c =
     let s = c .before .before .before in
-    λ ns G. versions-laid-all (now (s .args .work)) _ _ ns _ _ _ G (c .before .loop .inv ns G) (c .loop-test .left)
+    λ ns G. versions-stored-all (now (s .args .work)) _ _ ns _ _ _ G (c .before .loop .inv ns G) (c .loop-test .left)
 
 pub put-version-leaves-spec : {M : Type 1} → statement M
 put-version-leaves-spec =
@@ -92,7 +92,7 @@ put-version-leaves-spec =
     μ-loop
     loop-holds
     leaf-of-requires
-    put-row-requires
+    store-leaf-requires
     add-count
     get-next-requires
     cast-i

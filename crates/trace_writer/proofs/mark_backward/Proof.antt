@@ -21,8 +21,8 @@ loop-holds c = search back-none
 sub-i : tie.Need-sub-i Inv-loop μ-loop
 sub-i c = search needs
 
-spread-requires : tie.Need-spread-requires Inv-loop μ-loop
-spread-requires c κs = search back-starts
+mark-starts-if-marked-requires : tie.Need-mark-starts-if-marked-requires Inv-loop μ-loop
+mark-starts-if-marked-requires c κs = search back-starts
 
 loop-less : tie.Need-loop-less Inv-loop μ-loop
 loop-less c = search needs
@@ -46,7 +46,7 @@ mark-backward-spec =
     mark-starts-requires
     loop-holds
     sub-i
-    spread-requires
+    mark-starts-if-marked-requires
     loop-less
     loop-again
     same-length

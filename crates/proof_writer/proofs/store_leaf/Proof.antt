@@ -2,9 +2,9 @@ use borrow.Author.Needs.{needs}
 use native.Mathlib.Omega.{arith}
 use denote.Ref.{now}
 use Rattle.accumulator.proofs.Sizes.{length-digest, least-fits}
-use Rattle.proof_writer.proofs.Laying.{row-put}
-use Rattle.proof_writer.proofs.put_row.Statement.{statement}
-use Rattle.proof_writer.proofs.put_row.Tie as tie
+use Rattle.proof_writer.proofs.StoringLeaves.{stored-put}
+use Rattle.proof_writer.proofs.store_leaf.Statement.{statement}
+use Rattle.proof_writer.proofs.store_leaf.Tie as tie
 
 mul-put-u64 : tie.Need-mul-put-u64
 mul-put-u64 c = search needs
@@ -36,10 +36,10 @@ same-length c = search needs
 returns : tie.Need-returns
 returns c =
     let s = c .before .before .before .before .before .before .before .before .before .before .before in
-    row-put (now (s .args .work)) _ _ (s .args .i) (s .args .k) (length-digest (s .args .k) (s .good .1 .1 .0)) (omega (arith, least-fits (s .args .k) (s .good .1 .1 .0))) (s .pre) (c .before .before .before .before .before .before .before .put-u64 .ensures) (c .before .before .copy .ensures)
+    stored-put (now (s .args .work)) _ _ (s .args .i) (s .args .k) (length-digest (s .args .k) (s .good .1 .1 .0)) (omega (arith, least-fits (s .args .k) (s .good .1 .1 .0))) (s .pre) (c .before .before .before .before .before .before .before .put-u64 .ensures) (c .before .before .copy .ensures)
 
-pub put-row-spec : {M : Type 1} → statement M
-put-row-spec =
+pub store-leaf-spec : {M : Type 1} → statement M
+store-leaf-spec =
     tie.close
     (tie.spec
     mul-put-u64

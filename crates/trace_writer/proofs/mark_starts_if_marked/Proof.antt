@@ -1,7 +1,7 @@
 use Rattle.trace_writer.proofs.Edges.{spread-marked, spread-none}
 use borrow.Author.Needs.{needs}
-use Rattle.trace_writer.proofs.spread.Statement.{statement}
-use Rattle.trace_writer.proofs.spread.Tie as tie
+use Rattle.trace_writer.proofs.mark_starts_if_marked.Statement.{statement}
+use Rattle.trace_writer.proofs.mark_starts_if_marked.Tie as tie
 
 marked-requires : tie.Need-marked-requires
 marked-requires c κs = search needs
@@ -21,7 +21,7 @@ same-length-2 c = search needs
 returns-2 : tie.Need-returns-2
 returns-2 c = search spread-none
 
-pub spread-spec : {M : Type 1} → statement M
-spread-spec =
+pub mark-starts-if-marked-spec : {M : Type 1} → statement M
+mark-starts-if-marked-spec =
     tie.close
     (tie.spec marked-requires mark-starts-requires same-length returns same-length-2 returns-2)
