@@ -159,6 +159,7 @@ side!(plain_rust, reference);
 #[cfg(test)]
 mod tests {
     use super::*;
+    use crate::heap::peak;
     use crate::table::subjects;
 
     /// Every row of the table, with few records.
@@ -177,13 +178,26 @@ mod tests {
             let given = proved(&case, &mut own);
             assert_eq!((given, given.0), (plain_rust(&case, &mut other), 0), "{case:?}");
             assert_eq!(own.out, other.out);
-            let less = Case { work: case.work.saturating_sub(1), out: case.out.saturating_sub(1), ..case.clone() };
-            let refused = match proved(&less, &mut less.lent()) {
-                (0, length) => case.call == Call::Records && length == 0,
-                (number, _) => number == 12 || number == 13,
-            };
-            assert!(refused || less == case, "{case:?}");
+            let (work, out) = (case.work.saturating_sub(1), case.out.saturating_sub(1));
+            let less = [Case { work, ..case.clone() }, Case { out, ..case.clone() }];
+            assert!(less.iter().all(|less| *less == case || refused(less)), "{case:?}");
         }
+    }
+
+    fn refused(case: &Case) -> bool {
+        match proved(case, &mut case.lent()) {
+            (0, length) => case.call == Call::Records && length == 0,
+            (number, _) => number == 12 || number == 13,
+        }
+    }
+
+    /// Only the Rust version has a heap.
+    #[test]
+    fn the_sides_are_two() {
+        let case = Case::new(&Subject { call: Call::Commitment, direction: "-", shape: "mixed", size: 40 });
+        let mut lent = case.lent();
+        assert_eq!(peak(|| { proved(&case, &mut lent); }), 0);
+        assert!(peak(|| { plain_rust(&case, &mut lent); }) > 40);
     }
 
     #[test]

@@ -45,6 +45,13 @@ pub fn used(call: &mut dyn FnMut()) -> usize {
 mod tests {
     use super::*;
     use std::hint::black_box;
+    use std::mem::MaybeUninit;
+
+    /// An array of which nearly nothing is written.
+    #[inline(never)]
+    fn hole() {
+        black_box(&mut MaybeUninit::<[u8; 100_000]>::uninit());
+    }
 
     #[inline(never)]
     fn array<const BYTES: usize>() -> u8 {
@@ -64,6 +71,7 @@ mod tests {
     fn an_array_is_seen_whole() {
         assert_eq!(of(|| ()), 0);
         let (small, large) = (of(array::<10_000>), of(array::<1_000_000>));
+        assert!(of(hole) >= 100_000);
         assert!((10_000..30_000).contains(&small), "{small}");
         assert!((1_000_000..2_100_000).contains(&large), "{large}");
     }

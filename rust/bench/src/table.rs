@@ -20,20 +20,21 @@ pub struct Subject {
 /// Sizes between which instructions a record are compared.
 const GROWTH: [usize; 2] = [8_192, 65_535];
 
-/// Calls, directions and shapes: of logs the mixed shape and the worst of the others; of histories the worse one.
+/// Calls, directions and shapes. Of logs the mixed shape and the worst of the others, of full histories the worse one: by time, and by
+/// instructions where the times are as near as they vary.
 const KINDS: [(Call, &str, &str); 14] = [
     (Call::Hash, "-", "tuned"),
     (Call::Hash, "-", "plain"),
     (Call::Log, "-", "mixed"),
     (Call::Log, "-", "flows"),
-    (Call::Listing, "-", "mixed"),
+    (Call::Listing, "-", "flows"),
     (Call::Commitment, "-", "mixed"),
     (Call::Commitment, "-", "flows"),
-    (Call::Answer, "only", "turns"),
-    (Call::Answer, "backward", "turns"),
+    (Call::Answer, "only", "busy"),
+    (Call::Answer, "backward", "busy"),
     (Call::Answer, "forward", "turns"),
-    (Call::Check, "only", "turns"),
-    (Call::Check, "backward", "turns"),
+    (Call::Check, "only", "busy"),
+    (Call::Check, "backward", "busy"),
     (Call::Check, "forward", "turns"),
     (Call::Records, "forward", "turns"),
 ];
@@ -137,7 +138,7 @@ fn ratio(value: Option<f64>) -> String {
     value.map_or(NONE.to_string(), |value| format!("{value:.2}"))
 }
 
-/// Three digits, or all before the point.
+/// Two digits after the point, fewer above ten, none above a hundred.
 fn short(value: f64) -> String {
     match value {
         0.0 => "0".to_string(),
@@ -204,7 +205,8 @@ mod tests {
 
     #[test]
     fn numbers_are_short() {
-        let numbers = [(0.0, "0"), (0.123, "0.12"), (9.994, "9.99"), (9.996, "10.0"), (99.96, "100"), (1234.6, "1,235"), (1e6, "1,000,000")];
+        let small = [(0.0, "0"), (0.123, "0.12"), (9.994, "9.99"), (9.996, "10.0")];
+        let numbers = small.into_iter().chain([(99.96, "100"), (1234.6, "1,235"), (1e6, "1,000,000")]);
         for (value, text) in numbers {
             assert_eq!(short(value), text);
         }

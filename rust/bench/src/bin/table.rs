@@ -20,9 +20,9 @@ fn main() {
 }
 
 fn notes(openssl: &Option<OpenSsl>) {
-    println!("no buffer is cleared before a call; the library clears the work area at the end of every call, which is in the time");
-    println!("times are medians over {TURNS} interleaved turns; a record of `hash` is a byte; `listing` ends at 512 records");
-    println!("to Rust: speed, above 1 the library is faster; to OpenSSL: time, as a multiple of hashing the call's strings alone");
+    println!("no buffer is cleared before a call; the library clears the work area at its end, the Rust version at its start: timed");
+    println!("ns, instructions, input, work, output and Rust heap are by record, of `hash` by byte; `listing` ends at 512 records");
+    println!("to Rust: speed, more is faster; to OpenSSL: time, by that for the call's strings; medians of {TURNS} interleaved turns");
     match openssl {
         None => println!("libcrypto.so.3 is not there"),
         Some(found) if found.masked => println!("{}, this processor's SHA instructions masked", found.version),
