@@ -58,20 +58,18 @@ const COMMITMENT: usize = 32;
 impl Case {
     pub fn new(subject: &Subject) -> Self {
         let Subject { call, direction, shape, size } = *subject;
+        let input = if call == Call::Hash { Random::new(size as u64).bytes(size) } else { shapes::log(shape, size) };
+        let asked = || Asked::new(&input, DIRECTIONS.iter().position(|name| *name == direction).expect("a direction") as u8);
         let question = Question { direction: 0, entity: 0, time: 0 };
         let blank = |input| Case { call, question, input, work: 0, out: 0 };
-        if call == Call::Hash {
-            return Case { out: 32, ..blank(Random::new(size as u64).bytes(size)) };
-        }
-        let log = shapes::log(shape, size);
-        let asked = || Asked::new(&log, DIRECTIONS.iter().position(|name| *name == direction).expect("a direction") as u8);
         match call {
-            Call::Hash | Call::Log => blank(log),
-            Call::Listing => Case { out: listing::text(&log).len(), ..blank(log) },
-            Call::Commitment => Case { work: WORK * size, out: COMMITMENT, ..blank(log) },
+            Call::Hash => Case { out: 32, ..blank(input) },
+            Call::Log => blank(input),
+            Call::Listing => Case { out: listing::text(&input).len(), ..blank(input) },
+            Call::Commitment => Case { work: WORK * size, out: COMMITMENT, ..blank(input) },
             Call::Answer => {
                 let Asked { question, answer, .. } = asked();
-                Case { question, work: WORK * size, out: answer.len(), ..blank(log) }
+                Case { question, work: WORK * size, out: answer.len(), ..blank(input) }
             }
             Call::Check | Call::Records => {
                 let Asked { question, commitment, answer } = asked();

@@ -3,17 +3,16 @@
 use reference::host::Host;
 use reference::log::{read, write, Record};
 use reference::random::{self, Random};
-use reference::sample::{births, in_turn, one_source};
+use reference::sample::{in_turn, one_source};
 use reference::sha256::Digest;
 use reference::{Question, FORWARD};
 
-/// A sound log of that many records: a random mix, births only, flows among a quarter as many entities, one source of every flow, or two
-/// entities that feed each other in turn.
+/// A sound log of that many records: a random mix, flows among a quarter as many entities, one source of every flow, or two entities
+/// that feed each other in turn.
 pub fn log(shape: &str, records: usize) -> Vec<u8> {
     let mut random = Random::new(records as u64);
     let birth = |n: usize| Record::Birth { entity: 3 * n as u32, time: n as u64 };
     let made: Vec<Record> = match shape {
-        "births" => births(records),
         "busy" => one_source(records),
         "turns" => in_turn(records),
         "flows" => {

@@ -20,8 +20,8 @@ pub struct Subject {
 /// Sizes between which instructions a record are compared.
 const GROWTH: [usize; 2] = [8_192, 65_535];
 
-/// Calls, directions and shapes. Of logs the mixed shape and the worst of the others, of full histories the worse one: by time, and by
-/// instructions where the times are as near as they vary.
+/// Calls, directions and shapes: for log and commitment the mixed shape and the worst of the others by time, for the calls on a question
+/// the worse of two full histories by instructions.
 const KINDS: [(Call, &str, &str); 14] = [
     (Call::Hash, "-", "tuned"),
     (Call::Hash, "-", "plain"),
