@@ -1,6 +1,7 @@
 //! The system's OpenSSL, loaded at run time if it is there: nothing here needs it to build.
 
 use std::ffi::{c_char, c_int, c_void, CStr};
+use std::hint::black_box;
 
 extern "C" {
     fn dlopen(file: *const c_char, mode: c_int) -> *mut c_void;
@@ -60,5 +61,44 @@ impl OpenSsl {
             (self.last)(digest.as_mut_ptr(), &mut context);
         }
         digest
+    }
+
+    pub fn hash_all(&self, strings: &Strings) {
+        for string in strings.iter() {
+            black_box(self.hash(string));
+        }
+    }
+}
+
+/// Strings one after the other in memory.
+pub struct Strings {
+    bytes: Vec<u8>,
+    lengths: Vec<usize>,
+}
+
+impl Strings {
+    pub fn new(strings: &[Vec<u8>]) -> Self {
+        Strings { bytes: strings.concat(), lengths: strings.iter().map(Vec::len).collect() }
+    }
+
+    pub fn is_empty(&self) -> bool {
+        self.lengths.is_empty()
+    }
+
+    fn iter(&self) -> impl Iterator<Item = &[u8]> {
+        let mut rest = &self.bytes[..];
+        self.lengths.iter().map(move |length| rest.split_off(..*length).expect("as many bytes as lengths say"))
+    }
+}
+
+#[cfg(test)]
+mod tests {
+    use super::*;
+
+    #[test]
+    fn strings_come_out_as_they_went_in() {
+        let strings = [&b"one"[..], b"", b"three", b"4"].map(<[u8]>::to_vec);
+        assert_eq!(Strings::new(&strings).iter().map(<[u8]>::to_vec).collect::<Vec<_>>(), strings);
+        assert!(Strings::new(&[]).is_empty() && !Strings::new(&strings).is_empty());
     }
 }

@@ -1,0 +1,229 @@
+//! A call with its input and the memory lent to it, for the proved library and the Rust version alike, and the strings that it hashes.
+
+use crate::shapes::{self, Asked};
+use crate::table::{Subject, DIRECTIONS};
+use reference::clash::{building, checking};
+use reference::forge::pieces;
+use reference::log::read;
+use reference::random::Random;
+use reference::sha256::sha256;
+use reference::{listing, Question, WORK};
+use viewer::plain as exported;
+
+/// The exported calls.
+#[derive(Clone, Copy, Debug, PartialEq, Eq)]
+pub enum Call {
+    Hash,
+    Log,
+    Listing,
+    Commitment,
+    Answer,
+    Check,
+    Records,
+}
+
+const CALLS: [Call; 7] = [Call::Hash, Call::Log, Call::Listing, Call::Commitment, Call::Answer, Call::Check, Call::Records];
+
+impl Call {
+    pub fn name(self) -> String {
+        format!("{self:?}").to_lowercase()
+    }
+
+    fn named(name: &str) -> Option<Call> {
+        CALLS.into_iter().find(|call| call.name() == name)
+    }
+}
+
+/// What a call does not take is empty or zero.
+#[derive(Clone, Debug, PartialEq, Eq)]
+pub struct Case {
+    pub call: Call,
+    pub question: Question,
+    /// The message or the log; for check and records the commitment, then the answer.
+    pub input: Vec<u8>,
+    /// Bytes of the work area and of the output, no more than the call needs.
+    pub work: usize,
+    pub out: usize,
+}
+
+/// The memory that a call writes to.
+pub struct Lent {
+    work: Vec<u8>,
+    pub out: Vec<u8>,
+}
+
+/// Bytes of a commitment.
+const COMMITMENT: usize = 32;
+
+impl Case {
+    pub fn new(subject: &Subject) -> Self {
+        let Subject { call, direction, shape, size } = *subject;
+        let input = if call == Call::Hash { Random::new(size as u64).bytes(size) } else { shapes::log(shape, size) };
+        let asked = || Asked::new(&input, DIRECTIONS.iter().position(|name| *name == direction).expect("a direction") as u8);
+        let question = Question { direction: 0, entity: 0, time: 0 };
+        let blank = |input| Case { call, question, input, work: 0, out: 0 };
+        match call {
+            Call::Hash => Case { out: 32, ..blank(input) },
+            Call::Log => blank(input),
+            Call::Listing => Case { out: listing::text(&input).len(), ..blank(input) },
+            Call::Commitment => Case { work: WORK * size, out: COMMITMENT, ..blank(input) },
+            Call::Answer => {
+                let Asked { question, answer, .. } = asked();
+                Case { question, work: WORK * size, out: answer.len(), ..blank(input) }
+            }
+            Call::Check | Call::Records => {
+                let Asked { question, commitment, answer } = asked();
+                let work = WORK * pieces(&answer).records.len();
+                Case { question, work, ..blank([&commitment[..], &answer].concat()) }
+            }
+        }
+    }
+
+    pub fn lent(&self) -> Lent {
+        Lent { work: vec![0; self.work], out: vec![0; self.out] }
+    }
+
+    /// Commitment and answer of a check.
+    fn checked(&self) -> (&[u8], &[u8]) {
+        self.input.split_at(COMMITMENT.min(self.input.len()))
+    }
+
+    /// The strings that the call hashes; of an answer those that its definition needs, which are the commitment's but the last, R.
+    pub fn strings(&self) -> Vec<Vec<u8>> {
+        let built = || building(sha256, &read(&self.input).expect("a sound log")).1;
+        match self.call {
+            Call::Log | Call::Listing => Vec::new(),
+            Call::Hash => vec![self.input.clone()],
+            Call::Commitment => built(),
+            Call::Answer => built().into_iter().filter(|string| string[0] != b'R').collect(),
+            Call::Check | Call::Records => {
+                let (commitment, answer) = self.checked();
+                checking(sha256, &self.question, commitment.try_into().expect("32 bytes"), answer)
+            }
+        }
+    }
+
+    /// The case as words, all but the input.
+    pub fn words(&self) -> Vec<String> {
+        let Question { direction, entity, time } = self.question;
+        let numbers = [u64::from(direction), u64::from(entity), time, self.work as u64, self.out as u64];
+        [self.call.name()].into_iter().chain(numbers.map(|number| number.to_string())).collect()
+    }
+
+    pub fn from_words(words: &[String], input: Vec<u8>) -> Option<Self> {
+        let (name, numbers) = words.split_first()?;
+        let numbers: Vec<u64> = numbers.iter().map(|word| word.parse()).collect::<Result<_, _>>().ok()?;
+        let [direction, entity, time, work, out] = numbers[..] else {
+            return None;
+        };
+        let question = Question { direction: direction as u8, entity: entity as u32, time };
+        Some(Case { call: Call::named(name)?, question, input, work: work as usize, out: out as usize })
+    }
+}
+
+/// A side's call: the row's number, and the length, count or 0 that comes with it. The functions of both sides have the same arguments.
+macro_rules! side {
+    ($side:ident, $calls:ident) => {
+        pub fn $side(case: &Case, lent: &mut Lent) -> (u64, u64) {
+            let Question { direction, entity, time } = case.question;
+            let (input, Lent { work, out }) = (&case.input[..], lent);
+            let (commitment, answer) = case.checked();
+            match case.call {
+                Call::Hash => ($calls::hash(input, out).number, 0),
+                Call::Log => with_length!($calls::log(input)),
+                Call::Listing => with_length!($calls::listing(input, out)),
+                Call::Commitment => ($calls::commitment(input, work, out).number, 0),
+                Call::Answer => with_length!($calls::answer(direction, entity, time, input, work, out)),
+                Call::Check => {
+                    let checked = $calls::check(direction, entity, time, commitment, answer, work);
+                    (checked.number, checked.count)
+                }
+                Call::Records => (0, $calls::records(direction, entity, time, commitment, answer, work).length),
+            }
+        }
+    };
+}
+
+macro_rules! with_length {
+    ($result:expr) => {{
+        let written = $result;
+        (written.number, written.length)
+    }};
+}
+
+side!(proved, exported);
+side!(plain_rust, reference);
+
+#[cfg(test)]
+mod tests {
+    use super::*;
+    use crate::heap::peak;
+    use crate::table::subjects;
+
+    /// Every row of the table, with few records.
+    fn small() -> Vec<Case> {
+        subjects().iter().map(|subject| Case::new(&Subject { size: 40, ..*subject })).collect()
+    }
+
+    fn letters(strings: &[Vec<u8>], letter: u8) -> usize {
+        strings.iter().filter(|string| string[0] == letter).count()
+    }
+
+    #[test]
+    fn both_sides_do_the_same_with_no_more_than_they_need() {
+        for case in small() {
+            let (mut own, mut other) = (case.lent(), case.lent());
+            let given = proved(&case, &mut own);
+            assert_eq!((given, given.0), (plain_rust(&case, &mut other), 0), "{case:?}");
+            assert_eq!(own.out, other.out);
+            let (work, out) = (case.work.saturating_sub(1), case.out.saturating_sub(1));
+            let less = [Case { work, ..case.clone() }, Case { out, ..case.clone() }];
+            assert!(less.iter().all(|less| *less == case || refused(less)), "{case:?}");
+        }
+    }
+
+    fn refused(case: &Case) -> bool {
+        match proved(case, &mut case.lent()) {
+            (0, length) => case.call == Call::Records && length == 0,
+            (number, _) => number == 12 || number == 13,
+        }
+    }
+
+    /// Only the Rust version has a heap.
+    #[test]
+    fn the_sides_are_two() {
+        let case = Case::new(&Subject { call: Call::Commitment, direction: "-", shape: "mixed", size: 40 });
+        let mut lent = case.lent();
+        assert_eq!(peak(|| { proved(&case, &mut lent); }), 0);
+        assert!(peak(|| { plain_rust(&case, &mut lent); }) > 40);
+    }
+
+    #[test]
+    fn words_and_input_are_the_case() {
+        for case in small() {
+            assert_eq!(Case::from_words(&case.words(), case.input.clone()), Some(case));
+        }
+        let words = |text: &str| text.split(' ').map(str::to_string).collect::<Vec<_>>();
+        assert!(Case::from_words(&words("log 0 0 0 0 0"), Vec::new()).is_some());
+        for wrong in ["logs 0 0 0 0 0", "log 0 0 0 0", "log 0 0 0 0 0 0", "log 0 0 x 0 0"] {
+            assert_eq!(Case::from_words(&words(wrong), Vec::new()), None);
+        }
+    }
+
+    /// Of 40 versions of 2 entities: I, O, L of each version, G of each entity, N and P that join them, R.
+    #[test]
+    fn what_is_hashed() {
+        let strings = |call, direction| Case::new(&Subject { call, direction, shape: "turns", size: 40 }).strings();
+        let count = |strings: Vec<Vec<u8>>| b"IOLGNPR".map(|letter| letters(&strings, letter));
+        assert_eq!(count(strings(Call::Commitment, "-")), [40, 40, 40, 2, 38, 1, 1]);
+        for direction in DIRECTIONS {
+            assert_eq!(count(strings(Call::Answer, direction)), [40, 40, 40, 2, 38, 1, 0]);
+        }
+        for call in [Call::Check, Call::Records] {
+            assert_eq!(count(strings(call, "only")), [0, 0, 1, 1, 3, 1, 1]);
+            assert_eq!(count(strings(call, "backward")), [40, 0, 1, 1, 3, 1, 1]);
+            assert_eq!(count(strings(call, "forward")), [0, 39, 1, 1, 5, 1, 1]);
+        }
+        assert!(strings(Call::Log, "-").is_empty() && strings(Call::Listing, "-").is_empty());
+    }
+}

@@ -1,0 +1,214 @@
+//! The rows of the table: what they measure, and how they are printed.
+
+use crate::case::Call;
+
+/// A question's directions by number.
+pub const DIRECTIONS: [&str; 3] = ["only", "backward", "forward"];
+
+/// What a row measures.
+#[derive(Clone, Copy, Debug, PartialEq, Eq)]
+pub struct Subject {
+    pub call: Call,
+    /// A dash for a call without a question.
+    pub direction: &'static str,
+    /// The log's shape; for hash the Rust version that it is compared with.
+    pub shape: &'static str,
+    /// Records; for hash bytes.
+    pub size: usize,
+}
+
+/// Sizes between which instructions a record are compared.
+const GROWTH: [usize; 2] = [8_192, 65_535];
+
+/// Calls, directions and shapes: for log and commitment the mixed shape and the worst of the others by time, for the calls on a question
+/// the worse of two full histories by instructions.
+const KINDS: [(Call, &str, &str); 14] = [
+    (Call::Hash, "-", "tuned"),
+    (Call::Hash, "-", "plain"),
+    (Call::Log, "-", "mixed"),
+    (Call::Log, "-", "flows"),
+    (Call::Listing, "-", "flows"),
+    (Call::Commitment, "-", "mixed"),
+    (Call::Commitment, "-", "flows"),
+    (Call::Answer, "only", "busy"),
+    (Call::Answer, "backward", "busy"),
+    (Call::Answer, "forward", "turns"),
+    (Call::Check, "only", "busy"),
+    (Call::Check, "backward", "busy"),
+    (Call::Check, "forward", "turns"),
+    (Call::Records, "forward", "turns"),
+];
+
+fn sizes(call: Call) -> &'static [usize] {
+    match call {
+        Call::Hash => &[97, 1 << 20],
+        Call::Listing => &[512],
+        _ => &[1_024, GROWTH[0], GROWTH[1]],
+    }
+}
+
+pub fn subjects() -> Vec<Subject> {
+    let subject = |(call, direction, shape): (Call, &'static str, &'static str)| {
+        sizes(call).iter().map(move |&size| Subject { call, direction, shape, size })
+    };
+    KINDS.into_iter().flat_map(subject).collect()
+}
+
+/// What a call took.
+pub struct Row {
+    pub subject: Subject,
+    pub seconds: f64,
+    /// The proved library's speed, as a multiple of the Rust version's.
+    pub to_rust: f64,
+    /// The call's time, as a multiple of OpenSSL's for the same strings; none without OpenSSL or strings.
+    pub to_openssl: Option<f64>,
+    /// None without valgrind.
+    pub instructions: Option<u64>,
+    /// Bytes lent: input, work area and output.
+    pub lent: [usize; 3],
+    /// Bytes of stack.
+    pub stack: usize,
+    /// The most bytes that the Rust version has from the heap at one time.
+    pub heap: usize,
+}
+
+const HEADINGS: [&str; 14] = [
+    "call", "asked", "shape", "records", "ns", "to Rust", "to OpenSSL", "instructions", "growth", "input", "work", "output", "stack",
+    "Rust heap",
+];
+/// The columns before the first number.
+const NAMES: usize = 3;
+const WIDTHS: [usize; HEADINGS.len()] = [10, 8, 5, 9, 7, 7, 10, 12, 6, 6, 6, 6, 9, 9];
+
+impl Row {
+    fn a_record(&self, number: f64) -> f64 {
+        number / self.subject.size as f64
+    }
+
+    fn instructions_a_record(&self) -> Option<f64> {
+        self.instructions.map(|count| self.a_record(count as f64))
+    }
+
+    /// Instructions a record, as a multiple of those of the smaller log among the rows before.
+    fn growth(&self, before: &[Row]) -> Option<f64> {
+        let smaller = Subject { size: GROWTH[0], ..self.subject };
+        let other = before.iter().find(|row| row.subject == smaller && self.subject.size == GROWTH[1])?;
+        Some(self.instructions_a_record()? / other.instructions_a_record()?)
+    }
+
+    /// The row as it is printed below the rows before it.
+    pub fn line(&self, before: &[Row]) -> String {
+        let Subject { call, direction, shape, size } = self.subject;
+        let bytes = |count: usize| short(self.a_record(count as f64));
+        let [input, work, out] = self.lent.map(bytes);
+        line([
+            call.name(),
+            direction.to_string(),
+            shape.to_string(),
+            grouped(size),
+            short(self.a_record(self.seconds * 1e9)),
+            ratio(Some(self.to_rust)),
+            ratio(self.to_openssl),
+            self.instructions_a_record().map_or(NONE.to_string(), short),
+            ratio(self.growth(before)),
+            input,
+            work,
+            out,
+            grouped(self.stack),
+            bytes(self.heap),
+        ])
+    }
+}
+
+pub fn headings() -> String {
+    line(HEADINGS.map(str::to_string))
+}
+
+fn line(cells: [String; HEADINGS.len()]) -> String {
+    let cell = |(place, cell): (usize, String)| {
+        let width = WIDTHS[place];
+        if place < NAMES { format!("{cell:<width$}") } else { format!("{cell:>width$}") }
+    };
+    cells.into_iter().enumerate().map(cell).collect::<Vec<_>>().join(" ")
+}
+
+const NONE: &str = "-";
+
+fn ratio(value: Option<f64>) -> String {
+    value.map_or(NONE.to_string(), |value| format!("{value:.2}"))
+}
+
+/// Two digits after the point, fewer above ten, none above a hundred.
+fn short(value: f64) -> String {
+    match value {
+        0.0 => "0".to_string(),
+        _ if value < 9.995 => format!("{value:.2}"),
+        _ if value < 99.95 => format!("{value:.1}"),
+        _ => grouped(value.round() as usize),
+    }
+}
+
+/// A number with commas.
+fn grouped(number: usize) -> String {
+    match number {
+        0..1_000 => number.to_string(),
+        _ => format!("{},{:03}", grouped(number / 1_000), number % 1_000),
+    }
+}
+
+#[cfg(test)]
+mod tests {
+    use super::*;
+
+    fn row(call: Call, shape: &'static str, size: usize, instructions: Option<u64>) -> Row {
+        let subject = Subject { call, direction: "-", shape, size };
+        Row { subject, seconds: 0.0, to_rust: 1.0, to_openssl: None, instructions, lent: [0; 3], stack: 0, heap: 0 }
+    }
+
+    #[test]
+    fn growth_is_to_the_smaller_log_of_the_same_kind() {
+        let kinds = [(Call::Log, "mixed", 100), (Call::Log, "flows", 200), (Call::Commitment, "mixed", 400)];
+        let before: Vec<Row> = kinds.map(|(call, shape, count)| row(call, shape, 8_192, Some(8_192 * count))).into();
+        for (call, shape, growth) in [(Call::Log, "mixed", 4.0), (Call::Log, "flows", 2.0), (Call::Commitment, "mixed", 1.0)] {
+            assert_eq!(row(call, shape, 65_535, Some(65_535 * 400)).growth(&before), Some(growth));
+            assert_eq!(row(call, shape, 1_024, Some(1_024)).growth(&before), None);
+            assert_eq!(row(call, shape, 65_535, None).growth(&before), None);
+        }
+        assert_eq!(row(Call::Commitment, "flows", 65_535, Some(1)).growth(&before), None);
+    }
+
+    #[test]
+    fn growth_is_in_the_table() {
+        for subject in subjects().into_iter().filter(|subject| subject.size == GROWTH[1]) {
+            let before = subjects().into_iter().take_while(|other| *other != subject);
+            assert!(before.into_iter().any(|other| other == Subject { size: GROWTH[0], ..subject }), "{subject:?}");
+        }
+    }
+
+    #[test]
+    fn a_line_is_by_the_record() {
+        let subject = Subject { call: Call::Check, direction: "forward", shape: "busy", size: 2_000 };
+        let row = Row {
+            subject,
+            seconds: 0.003,
+            to_rust: 1.059,
+            to_openssl: Some(1.5),
+            instructions: Some(19_000_000),
+            lent: [44_000, 256_000, 0],
+            stack: 1_234_567,
+            heap: 90_000,
+        };
+        let cells = "check forward busy 2,000 1,500 1.06 1.50 9,500 - 22.0 128 0 1,234,567 45.0";
+        assert_eq!(row.line(&[]).split_whitespace().collect::<Vec<_>>().join(" "), cells);
+        assert_eq!(row.line(&[]).len(), headings().len());
+    }
+
+    #[test]
+    fn numbers_are_short() {
+        let small = [(0.0, "0"), (0.123, "0.12"), (9.994, "9.99"), (9.996, "10.0")];
+        let numbers = small.into_iter().chain([(99.96, "100"), (1234.6, "1,235"), (1e6, "1,000,000")]);
+        for (value, text) in numbers {
+            assert_eq!(short(value), text);
+        }
+    }
+}
