@@ -2,7 +2,7 @@
 
 use crate::shapes::{self, Asked};
 use crate::table::{Subject, DIRECTIONS};
-use reference::clash::{building, checking};
+use reference::collision::{building, checking};
 use reference::forge::pieces;
 use reference::log::read;
 use reference::random::Random;

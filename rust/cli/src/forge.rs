@@ -1,6 +1,6 @@
 //! Part two of the practical: whether a false answer passed, and if it did, what that shows.
 
-use reference::clash::{self, Clash};
+use reference::collision::{self, Collision};
 use viewer::{Question, Refusal};
 
 use crate::args::{self, to_hex, Words};
@@ -15,8 +15,8 @@ enum Outcome {
     Refused(Refusal),
     /// Accepted, and not false.
     Defined,
-    /// Accepted, though it is not the defined answer. By demand 3 there is a clash.
-    Passed(Option<Clash>),
+    /// Accepted, though it is not the defined answer. By demand 3 there is a collision.
+    Passed(Option<Collision>),
 }
 
 pub fn run(words: &Words) -> Done {
@@ -27,7 +27,7 @@ pub fn run(words: &Words) -> Done {
     match outcome(&question, &log, &answer).map_err(|refusal| refused_log(name, &refusal))? {
         Outcome::Refused(refusal) => Err(Failure::Answer(format!("not passed: {}", rows::said(&refusal)))),
         Outcome::Defined => Err(Failure::Answer("not false: this is the true answer".into())),
-        Outcome::Passed(clash) => files::write("-", passed(clash.as_ref())?.as_bytes()),
+        Outcome::Passed(collision) => files::write("-", passed(collision.as_ref())?.as_bytes()),
     }
 }
 
@@ -40,19 +40,19 @@ fn outcome(question: &Question, log: &[u8], answer: &[u8]) -> Result<Outcome, Re
     if calls::answer(question, log)? == answer {
         return Ok(Outcome::Defined);
     }
-    Ok(Outcome::Passed(clash_of(question, log, answer)))
+    Ok(Outcome::Passed(collision_of(question, log, answer)))
 }
 
 /// The two strings, looked for among those that the Rust version hashes.
-fn clash_of(question: &Question, log: &[u8], answer: &[u8]) -> Option<Clash> {
+fn collision_of(question: &Question, log: &[u8], answer: &[u8]) -> Option<Collision> {
     let records = reference::log::read(log).ok()?;
     let Question { direction, entity, time } = *question;
-    clash::find(calls::hash, &records, &reference::Question { direction: direction.number(), entity, time }, answer)
+    collision::find(calls::hash, &records, &reference::Question { direction: direction.number(), entity, time }, answer)
 }
 
 /// What is said of a false answer that passed. Whoever reads it can hash both strings anew.
-fn passed(clash: Option<&Clash>) -> Result<String, Failure> {
-    let Some(Clash { built, checked }) = clash else {
+fn passed(collision: Option<&Collision>) -> Result<String, Failure> {
+    let Some(Collision { built, checked }) = collision else {
         return Err(Failure::Answer("passed, and no two strings with one hash were found: this contradicts what is proved".into()));
     };
     let lines = [
@@ -71,7 +71,7 @@ mod tests {
 
     #[test]
     fn the_two_strings_are_shown_with_their_hashes() {
-        let text = passed(Some(&Clash { built: b"abc".to_vec(), checked: vec![] })).unwrap();
+        let text = passed(Some(&Collision { built: b"abc".to_vec(), checked: vec![] })).unwrap();
         let lines: Vec<&str> = text.lines().collect();
         assert!(lines[0].starts_with("passed: "));
         assert_eq!(lines[1], "hashed in building the commitment: 616263");

@@ -10,7 +10,7 @@
 #![forbid(unsafe_code)]
 
 pub mod check;
-pub mod clash;
+pub mod collision;
 pub mod edit;
 pub mod fields;
 pub mod forge;

@@ -55,7 +55,7 @@ fn not_yet_and_no_entity() {
     }
 }
 
-/// What every call on a log says of it, with a work area for so many records.
+/// What every call on a log says of it, with a work area of so many bytes.
 fn calls_on(log: &[u8], work: usize) -> Result<(), Refusal> {
     let mut out = [0; 32];
     let committed = with_work(work, |work| viewer::commitment(log, work, &mut out));

@@ -1,7 +1,7 @@
 //! False answers that pass under a weak hash, and the two strings of one hash that each of them shows.
 
 use reference::check::check_by;
-use reference::clash::{building, checking, find};
+use reference::collision::{building, checking, find};
 use reference::hash::Keeping;
 use reference::host::Host;
 use reference::random::Random;
@@ -41,7 +41,7 @@ const QUESTIONS: [Question; 3] = [
 ];
 
 #[test]
-fn every_false_answer_that_passes_shows_a_clash() {
+fn every_false_answer_that_passes_shows_a_collision() {
     let (mut random, records) = (Random::new(12), log_k());
     let (commitment, built) = building(weak, &records);
     let host = Host::by(&mut keeping(), &records);
@@ -54,10 +54,10 @@ fn every_false_answer_that_passes_shows_a_clash() {
             let answer = changed(&mut random, &defined);
             if answer != defined && accepted(&question, &commitment, &answer) {
                 passed += 1;
-                let clash = find(weak, &records, &question, &answer).expect("a clash");
-                assert!(clash.built != clash.checked && weak(&clash.built) == weak(&clash.checked));
-                assert!(built.contains(&clash.built));
-                assert!(checking(weak, &question, &commitment, &answer).contains(&clash.checked));
+                let collision = find(weak, &records, &question, &answer).expect("a collision");
+                assert!(collision.built != collision.checked && weak(&collision.built) == weak(&collision.checked));
+                assert!(built.contains(&collision.built));
+                assert!(checking(weak, &question, &commitment, &answer).contains(&collision.checked));
             }
         }
     }
@@ -85,7 +85,7 @@ fn what_is_hashed_in_building_and_checking_log_k() {
 }
 
 #[test]
-fn under_sha256_no_clash_is_found() {
+fn under_sha256_no_collision_is_found() {
     let (mut random, records) = (Random::new(13), log_k());
     let host = Host::new(&records);
     for question in QUESTIONS {

@@ -11,7 +11,7 @@ use crate::{Question, WORK};
 
 /// Two different strings of one hash.
 #[derive(Clone, Debug, PartialEq, Eq)]
-pub struct Clash {
+pub struct Collision {
     /// Hashed in building the commitment.
     pub built: Vec<u8>,
     /// Hashed in the check.
@@ -35,7 +35,7 @@ pub fn checking(hash: fn(&[u8]) -> Digest, question: &Question, commitment: &Dig
 
 /// A string of the check and another of the building with its hash, if there are two such. By demand 3 there are if the check accepts an
 /// answer that is not the defined one.
-pub fn find(hash: fn(&[u8]) -> Digest, records: &[Record], question: &Question, answer: &[u8]) -> Option<Clash> {
+pub fn find(hash: fn(&[u8]) -> Digest, records: &[Record], question: &Question, answer: &[u8]) -> Option<Collision> {
     let (commitment, strings) = building(hash, records);
     let mut built: HashMap<Digest, Vec<Vec<u8>>> = HashMap::new();
     for string in strings {
@@ -43,6 +43,6 @@ pub fn find(hash: fn(&[u8]) -> Digest, records: &[Record], question: &Question, 
     }
     checking(hash, question, &commitment, answer).into_iter().find_map(|checked| {
         let other = built.get(&hash(&checked))?.iter().find(|string| **string != checked)?;
-        Some(Clash { built: other.clone(), checked })
+        Some(Collision { built: other.clone(), checked })
     })
 }
