@@ -15,12 +15,12 @@ use Rattle.model.specs.CheckRows.{referred-to, first-unreferenced, unreferenced
 use Rattle.graph.specs.declared.Way.{Way as Declared}
 use Rattle.graph.specs.declared.Way.the-variants.{Backward, Forward}
 use Rattle.graph.specs.Ways.{wayOf}
-use Rattle.graph.specs.Table.{node-in, nodes-in, columns, Kept, Ready}
+use Rattle.graph.specs.Table.{node-in, nodes-in, Kept, Ready}
 use Rattle.graph.specs.Links.{Starts}
 use Rattle.graph.proofs.Slots.{kept-none, kept-then}
 use Rattle.graph.proofs.Nodes.{length-nodes, nodes-kept}
 use Rattle.graph.proofs.Incoming.{at-node, starts}
-use Rattle.marks.specs.Marks.{is-marked, Unmarked, StartsMarked}
+use Rattle.marks.specs.Marks.{mark-column, is-marked, Unmarked, StartsMarked}
 use Rattle.checker.specs.Runs.{place-or, Lowest}
 
 -- ---- marks
@@ -34,7 +34,7 @@ lower-here m t lowest i e h = ap (λ (b : Bool). cond b lowest i) (sym h ∙ e)
 -- the records from the i-th on are taken: which of those before have a mark, and the lowest so far
 pub record Referring (work work′ : Bytes) (n i lowest : ℕ) : Type 0 where
   pub below : i < n
-  pub kept : Kept (columns 81 82 ∷ []) work work′
+  pub kept : Kept mark-column work work′
   pub marks : (j : ℕ) → j < i → is-marked work′ j ≡ referred-to j (drop i (nodes-in work n))
   pub lowest-is : lowest ≡ place-or n (first-unreferenced i (drop i (nodes-in work n)))
 
@@ -46,13 +46,13 @@ module _ (work : Bytes) (n : ℕ) where
   beyond i h = drop-of-length-le (nodes-in work n) {i = i} (omega (arith, length-nodes work n))
 
   -- one record more: what has a mark then
-  marks-more : (w1 w2 : Bytes) (i : ℕ) → i < n → Kept (columns 81 82 ∷ []) work w1 → StartsMarked w1 w2 i → (j : ℕ)
+  marks-more : (w1 w2 : Bytes) (i : ℕ) → i < n → Kept mark-column work w1 → StartsMarked w1 w2 i → (j : ℕ)
       → is-marked w1 j ≡ referred-to j (drop (suc i) (nodes-in work n)) → is-marked w2 j ≡ referred-to j (drop i (nodes-in work n))
   unfolding referred-to
   marks-more w1 w2 i h k s j e =
       s .is j
       ∙ or-comm (is-marked w1 j) (refers j (node-in w1 i .in-edges))
-      ∙ ap₂ (λ (x : VersionNode) (b : Bool). refers j (x .in-edges) || b) (at-node (columns 81 82 ∷ []) work w1 k tt n i h) e
+      ∙ ap₂ (λ (x : VersionNode) (b : Bool). refers j (x .in-edges) || b) (at-node mark-column work w1 k tt n i h) e
       ∙ sym (ap (referred-to j) (from i h))
 
   place-cond : (b : Bool) (o : Option ℕ) (i : ℕ) → cond b (place-or n o) i ≡ place-or n (cond b o (some i))
@@ -75,7 +75,7 @@ module _ (work : Bytes) (n : ℕ) where
       let g : i < n = omega arith in
       record {
         below = g;
-        kept = kept-then (columns 81 82 ∷ []) work w1 w2 (r .kept) (s .kept);
+        kept = kept-then mark-column work w1 w2 (r .kept) (s .kept);
         marks = λ j l. marks-more w1 w2 i g (r .kept) s j (r .marks j (omega arith));
         lowest-is =
             e ∙ ap₂ (λ (b : Bool) (x : ℕ). cond b x i) (r .marks i (omega arith)) (r .lowest-is)
@@ -84,7 +84,7 @@ module _ (work : Bytes) (n : ℕ) where
       }
 
   pub cleared-starts : (w1 : Bytes) → Ready work n → 0 < n → Unmarked work w1 n → Starts w1 (n - 1)
-  cleared-starts w1 r h c = starts (columns 81 82 ∷ []) work w1 (c .kept) tt n (n - 1) (omega arith) r
+  cleared-starts w1 r h c = starts mark-column work w1 (c .kept) tt n (n - 1) (omega arith) r
 
   referring-last : (w1 w2 : Bytes) → 0 < n → Unmarked work w1 n → StartsMarked w1 w2 (n - 1) → Referring work w2 n (n - 1) n
   unfolding referred-to first-unreferenced place-or
@@ -94,7 +94,7 @@ module _ (work : Bytes) (n : ℕ) where
       let z : drop (suc (n - 1)) (nodes-in work n) ≡ [] = beyond (suc (n - 1)) (omega arith) in
       record {
         below = g;
-        kept = kept-then (columns 81 82 ∷ []) work w1 w2 (c .kept) (s .kept);
+        kept = kept-then mark-column work w1 w2 (c .kept) (s .kept);
         marks = λ j l. marks-more w1 w2 (n - 1) g (c .kept) s j (c .none j (omega arith) ∙ sym (ap (referred-to j) z));
         lowest-is =
             sym
@@ -107,7 +107,7 @@ module _ (work : Bytes) (n : ℕ) where
     lower-room ready h = omega (arith, ready .room, r .kept .size, r .below)
 
     pub turn-starts : Ready work n → 0 < i → Starts w1 (i - 1)
-    turn-starts ready h = starts (columns 81 82 ∷ []) work w1 (r .kept) tt n (i - 1) (omega (arith, r .below)) ready
+    turn-starts ready h = starts mark-column work w1 (r .kept) tt n (i - 1) (omega (arith, r .below)) ready
 
     pub referring-more : (w2 : Bytes) (low : ℕ) → 0 < i → low ≡ cond (is-marked w1 (i - 1)) lowest (i - 1) → StartsMarked w1 w2 (i - 1) → Referring work w2 n (i - 1) low
     referring-more w2 low h e s =
@@ -121,20 +121,20 @@ module _ (work : Bytes) (n : ℕ) where
 
 -- the table as the loop finds it: marks apart, it is the one handed in
 pub record Begun (work w2 : Bytes) (n : ℕ) : Type 0 where
-  pub kept : Kept (columns 81 82 ∷ []) work w2
+  pub kept : Kept mark-column work w2
   pub first : Referring w2 w2 n (n - 1) n
   pub ready : Ready w2 n
 
 pub begun : (work w1 w2 : Bytes) (n : ℕ) → Ready work n → 0 < n → Unmarked work w1 n → StartsMarked w1 w2 (n - 1) → Begun work w2 n
 begun work w1 w2 n ready h c s =
     let r = referring-last work n w1 w2 h c s in
-    let e : nodes-in w2 n ≡ nodes-in work n = nodes-kept (columns 81 82 ∷ []) work w2 (r .kept) tt n in
+    let e : nodes-in w2 n ≡ nodes-in work n = nodes-kept mark-column work w2 (r .kept) tt n in
     record {
       kept = r .kept;
       first =
           record {
             below = r .below;
-            kept = kept-none (columns 81 82 ∷ []) w2;
+            kept = kept-none mark-column w2;
             marks = λ j l. r .marks j l ∙ sym (ap (λ (ns : List VersionNode). referred-to j (drop (n - 1) ns)) e);
             lowest-is = r .lowest-is ∙ sym (ap (λ (ns : List VersionNode). place-or n (first-unreferenced (n - 1) (drop (n - 1) ns))) e);
           };
@@ -145,8 +145,8 @@ pub lowest-all : (work w2 w3 : Bytes) (n i lowest : ℕ) → Begun work w2 n →
 lowest-all work w2 w3 n i lowest b r h =
     let l = referring-all w2 n w3 i lowest r h in
     record {
-      kept = kept-then (columns 81 82 ∷ []) work w2 w3 (b .kept) (l .kept);
-      is = l .is ∙ ap (λ (ns : List VersionNode). place-or n (unreferenced backward ns)) (nodes-kept (columns 81 82 ∷ []) work w2 (b .kept) tt n);
+      kept = kept-then mark-column work w2 w3 (b .kept) (l .kept);
+      is = l .is ∙ ap (λ (ns : List VersionNode). place-or n (unreferenced backward ns)) (nodes-kept mark-column work w2 (b .kept) tt n);
     }
 
 -- ---- either way
@@ -158,7 +158,7 @@ lowest-backward way work work′ n r e l = subst (λ (w : Declared). Lowest (way
 pub lowest-forward : (way : Declared) (work : Bytes) (n : ℕ) → way ≡ Forward → Lowest (wayOf way) work work n n
 unfolding wayOf unreferenced place-or
 lowest-forward way work n e =
-    subst (λ (w : Declared). Lowest (wayOf w) work work n n) (sym e) (record { kept = kept-none (columns 81 82 ∷ []) work; is = refl })
+    subst (λ (w : Declared). Lowest (wayOf w) work work n n) (sym e) (record { kept = kept-none mark-column work; is = refl })
 
 -- ---- what the place says
 

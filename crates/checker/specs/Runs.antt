@@ -15,7 +15,8 @@ use Rattle.model.specs.Accumulator.{L-width, Leaf}
 use Rattle.model.specs.Question.{Way, backward, forward, SearchEnd, Verdict}
 use Rattle.model.specs.CheckRows.{leaf-in, CheckedProof, stopped, CheckedTrace, read-trace, unreferenced, found-position, path-digests, leaf-digest, Accepted}
 use Rattle.model.specs.Calls.{verdict-of}
-use Rattle.graph.specs.Table.{nodes-in, columns, Kept, Digests, Ready}
+use Rattle.graph.specs.Table.{nodes-in, Kept, Digests, Ready}
+use Rattle.marks.specs.Marks.{mark-column}
 use Rattle.trace_reader.specs.Records.{places-in}
 use Rattle.checker.specs.declared.Checking.{Checking}
 use Rattle.checker.specs.declared.Checking.the-variants.{NoEntity, NotYet, Found, Refused}
@@ -71,7 +72,7 @@ place-or n (some i) = i
 
 -- 22: the lowest record but the last to which none refers
 pub record Lowest (way : Way) (work work′ : Bytes) (n r : ℕ) : Type 0 where
-  pub kept : Kept (columns 81 82 ∷ []) work work′
+  pub kept : Kept mark-column work work′
   pub is : r ≡ place-or n (unreferenced way (nodes-in work n))
 
 -- where the path digests of a trace stand in a slot

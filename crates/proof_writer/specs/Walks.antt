@@ -9,6 +9,7 @@ use Rattle.fields.specs.Fields.{field}
 use Rattle.model.specs.Numbers.{Bytes, joined}
 use Rattle.model.specs.Graph.{VersionNode}
 use Rattle.model.specs.Accumulator.{Layout, tree, largest-power-below, VersionLeaf, versions-layout, no-leaf, Group, entities-layout, no-group, leaf-string}
+use Rattle.graph.specs.Table.{entity-in}
 use Rattle.model.specs.Question.{SearchEnd, Descent, by-entity, by-time, at-or-before, Opened, stop, after, open-tree}
 use Rattle.accumulator.specs.Halves.{path-to}
 use Rattle.proof_writer.specs.declared.Span.{Span}
@@ -99,9 +100,9 @@ pub record HasVersion (work : Bytes) (n x : ℕ) : Type 0 where
   pub room : 128 * n ≤ length work
   pub at : ℕ
   pub inside : at < n
-  pub is : field 4 work (128 * at + 72) ≡ x
+  pub is : entity-in work at ≡ x
 
 pub record FirstVersion (work : Bytes) (n x r : ℕ) : Type 0 where
   pub inside : r < n
-  pub is : field 4 work (128 * r + 72) ≡ x
-  pub first : (j : ℕ) → j < r → field 4 work (128 * j + 72) ≡ x → ⊥
+  pub is : entity-in work r ≡ x
+  pub first : (j : ℕ) → j < r → entity-in work j ≡ x → ⊥

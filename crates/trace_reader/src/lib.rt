@@ -7,8 +7,8 @@ use graph::ABSENT;
 use graph::Way;
 use graph::put_node;
 use graph::trace_letter;
-use log::EntityKey;
 use log::TimeKey;
+use log::entity_at;
 use model::LETTER_D;
 use model::LETTER_E;
 use model::LETTER_S;
@@ -166,14 +166,6 @@ fn record_row(answer: &[u8], at: usize, way: Way, i: usize, last: TimeKey) -> Re
 
 // ---- a record in the table
 
-fn entity_at(answer: &[u8], at: usize) -> EntityKey
-    requires { ⌜ at + 4 ≤ length (now answer) ⌝ }
-    ensures { λ r. ⌜ (r .0 ≡ field 4 (now (answer .entry)) at) × (r .0 < 2 ^ 32) ⌝ }
-{
-    let n = get_u32(answer, at);
-    EntityKey(n as u64)
-}
-
 // The position at a place, where it is that of a slot.
 fn start_at(answer: &[u8], at: usize) -> u16
     requires { ⌜ (at + 4 ≤ length (now answer)) × (field 4 (now answer) at < absent) ⌝ }
@@ -268,13 +260,13 @@ fn record_step(
 // ---- all records
 
 // The byte behind the last record, or the row that a record meets and where.
-pub enum Records {
+enum Records {
     Read { at: usize },
     Refused { number: u64, position: usize },
 }
 
 // Reads the records of the trace that starts at a place into the table.
-pub fn read_records(answer: &[u8], start: usize, way: Way, count: usize, work: &mut [u8]) -> Records
+fn read_records(answer: &[u8], start: usize, way: Way, count: usize, work: &mut [u8]) -> Records
     requires { ⌜ (start + 5 ≤ length (now answer)) × (count ≤ absent) × (128 * count ≤ length (now work)) ⌝ }
     ensures { λ r. ⌜ RecordsAre (read-records (wayOf way) count [] [] (start + 5) (drop (start + 5) (now (answer .entry)))) (now (answer .entry)) start count (now (work .exit)) r ⌝ }
 {

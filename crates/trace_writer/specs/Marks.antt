@@ -11,10 +11,14 @@ use Rattle.model.specs.Numbers.{Bytes}
 use Rattle.model.specs.Question as question
 use Rattle.model.specs.Trace.{refers, trace-versions}
 use Rattle.marks.specs.Marks.{mark-column, is-marked}
-use Rattle.graph.specs.Table.{absent, node-in, nodes-in, Ready, Columns, columns, Kept}
+use Rattle.graph.specs.Table.{absent, previous-in, source-in, node-in, nodes-in, Ready, Columns, columns, Kept}
 
 abbrev pub rank-column : List Columns
 rank-column = columns 124 128 ∷ []
+
+-- all that preparing a trace writes to
+abbrev pub trace-columns : List Columns
+trace-columns = columns 81 82 ∷ columns 124 128 ∷ []
 
 -- what slot j says
 unfoldable pub rank-in : Bytes → ℕ → ℕ
@@ -31,7 +35,7 @@ is-inside work p = ltb p absent && is-marked work p
 
 -- one of slot i's edges does
 unfoldable pub starts-inside : Bytes → ℕ → Bool
-starts-inside work i = is-inside work (field 2 work (128 * i + 76)) || is-inside work (field 2 work (128 * i + 78))
+starts-inside work i = is-inside work (previous-in work i) || is-inside work (source-in work i)
 
 -- ---- what a routine leaves
 

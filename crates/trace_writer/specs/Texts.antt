@@ -9,17 +9,17 @@ use Rattle.model.specs.Numbers.{Bytes, count-width}
 use Rattle.model.specs.Graph.{InEdge, temporal, dependency}
 use Rattle.model.specs.Question as question
 use Rattle.model.specs.Trace.{trace-letter, entry-letter, record-string-by, trace, trace-string}
-use Rattle.graph.specs.Table.{node-in, nodes-in, Ready}
+use Rattle.graph.specs.Table.{previous-in, source-in, kind-in, node-in, nodes-in, Ready}
 use Rattle.marks.specs.Marks.{is-marked}
 use Rattle.trace_writer.specs.Marks.{is-inside, members, rank-in, Prepared}
 
 -- slot i's edges that start inside, by the ranks of their starts
 unfoldable pub ranked-edges : Bytes → ℕ → List InEdge
 ranked-edges work i =
-    let p = field 2 work (128 * i + 76) in
-    let s = field 2 work (128 * i + 78) in
+    let p = previous-in work i in
+    let s = source-in work i in
     cond (is-inside work p) (temporal (rank-in work p) ∷ []) []
-    ++ cond (is-inside work s) (dependency (field 1 work (128 * i + 80)) (rank-in work s) ∷ []) []
+    ++ cond (is-inside work s) (dependency (kind-in work i) (rank-in work s) ∷ []) []
 
 -- a record of slot i with the edges es
 unfoldable pub record-with : question.Way → Bytes → ℕ → List InEdge → Bytes

@@ -27,10 +27,10 @@ ghost use Rattle.model.specs.Graph.{temporal, dependency};
 ghost use Rattle.model.specs.Question.{backward, forward};
 ghost use Rattle.model.specs.Trace.{entry-letter, trace, trace-string};
 ghost use Rattle.graph.specs.Ways.{wayOf};
-ghost use Rattle.graph.specs.Table.{absent, node-in, nodes-in, Ready, columns, Kept};
+ghost use Rattle.graph.specs.Table.{absent, node-in, nodes-in, Ready, Kept};
 ghost use Rattle.graph.specs.Links.{name-string, Starts};
 ghost use Rattle.marks.specs.Marks.{is-marked, Stands};
-ghost use Rattle.trace_writer.specs.Marks.{rank-in, members, is-inside, starts-inside, Begun, Spread, MarksDone, RanksDone, Ranked, Prepared};
+ghost use Rattle.trace_writer.specs.Marks.{trace-columns, rank-in, members, is-inside, starts-inside, Begun, Spread, MarksDone, RanksDone, Ranked, Prepared};
 ghost use Rattle.trace_writer.specs.Texts.{ranked-edges, record-with, slot-string, slot-strings, Width, TraceLength, RecordPut, Put, Room, Fits};
 
 // ---- the found version
@@ -204,7 +204,7 @@ fn trace_length(work: &[u8], n: usize) -> usize
 pub fn prepare(way: Way, work: &mut [u8], n: usize, v: usize) -> usize
     requires { ⌜ Ready (now work) n × (v < n) ⌝ }
     ensures prepared { λ _. ⌜ Prepared (wayOf way) (now (work .exit)) n v ⌝ }
-    ensures kept { λ _. ⌜ Kept (columns 81 82 ∷ columns 124 128 ∷ []) (now (work .entry)) (now (work .exit)) ⌝ }
+    ensures kept { λ _. ⌜ Kept trace-columns (now (work .entry)) (now (work .exit)) ⌝ }
     ensures bytes { λ r. ⌜ r ≡ length (trace-string (wayOf way) (trace (wayOf way) (nodes-in (now (work .entry)) n) v)) ⌝ }
 {
     mark_trace(way, work, n, v);
