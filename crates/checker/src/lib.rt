@@ -12,6 +12,7 @@ ghost use Prim.Native.Nat.{ℕ, _+_, _*_, _^_, _≤_, _<_};
 ghost use lib.Dec.{eqb};
 ghost use lib.ListN.{length, getD, drop};
 ghost use Rattle.fields.specs.Fields.{equal};
+ghost use Rattle.round_constants.specs.Constants.{K};
 ghost use Rattle.model.specs.Result.{ok};
 ghost use Rattle.model.specs.Graph.{VersionNode};
 ghost use Rattle.model.specs.Question.{backward, Question, question, SearchEnd, Verdict};
@@ -118,22 +119,30 @@ fn column_of(way: Way) -> usize
     }
 }
 
-fn put_digests(way: Way, work: &mut [u8], n: usize)
-    requires { ⌜ Ready (now work) n ⌝ }
+fn put_digests(way: Way, work: &mut [u8], n: usize, constants: &[u32; 64])
+    requires { ⌜ (Ready (now work) n) × (now constants ≡ K) ⌝ }
     ensures { λ _. ⌜ PathDigests (wayOf way) (now (work .entry)) (now (work .exit)) n ⌝ }
 {
     match way {
-        Way::Backward => graph::incoming_digests(work, n),
-        Way::Forward => graph::outgoing_digests(work, n),
+        Way::Backward => graph::incoming_digests(work, n, constants),
+        Way::Forward => graph::outgoing_digests(work, n, constants),
     }
 }
 
 // Whether the path digest of the record in a slot is the leaf's.
-fn same_digest(way: Way, work: &mut [u8], n: usize, i: usize, answer: &[u8], leaf: usize) -> bool
-    requires { ⌜ Ready (now work) n × (i < n) × (leaf + 77 ≤ length (now answer)) ⌝ }
+fn same_digest(
+    way: Way,
+    work: &mut [u8],
+    n: usize,
+    i: usize,
+    answer: &[u8],
+    leaf: usize,
+    constants: &[u32; 64],
+) -> bool
+    requires { ⌜ (Ready (now work) n × (i < n) × (leaf + 77 ≤ length (now answer))) × (now constants ≡ K) ⌝ }
     ensures { λ r. ⌜ r ≡ equal (getD (path-digests (wayOf way) (nodes-in (now (work .entry)) n)) i []) (leaf-digest (wayOf way) (leaf-in-answer (now (answer .entry)) leaf)) ⌝ }
 {
-    put_digests(way, work, n);
+    put_digests(way, work, n, constants);
     let column = column_of(way);
     fields::same(work, 128 * i + column, answer, leaf + 13 + column, 32)
 }
@@ -145,14 +154,22 @@ enum Rows {
 }
 
 // Rows 23 and 24.
-fn found_rows(way: Way, answer: &[u8], leaf: usize, start: usize, n: usize, work: &mut [u8]) -> Rows
-    requires { ⌜ Ready (now work) n × (0 < n) × (leaf + 77 ≤ length (now answer)) × (start ≤ length (now answer)) ⌝ }
+fn found_rows(
+    way: Way,
+    answer: &[u8],
+    leaf: usize,
+    start: usize,
+    n: usize,
+    work: &mut [u8],
+    constants: &[u32; 64],
+) -> Rows
+    requires { ⌜ (Ready (now work) n × (0 < n) × (leaf + 77 ≤ length (now answer)) × (start ≤ length (now answer))) × (now constants ≡ K) ⌝ }
     ensures { λ r. ⌜ r ≡ rowsOf (found-rows (wayOf way) (leaf-in-answer (now (answer .entry)) leaf) (nodes-in (now (work .entry)) n) (places-in (now (work .entry)) start n)) ⌝ }
 {
     let i = found_position(way, n);
     let position = position_of(work, start, i);
     if same_version(work, i, answer, leaf) {
-        if same_digest(way, work, n, i, answer, leaf) {
+        if same_digest(way, work, n, i, answer, leaf, constants) {
             return Rows::Passed;
         }
         return Rows::Refused {
@@ -175,8 +192,9 @@ fn trace_rows(
     n: usize,
     end: usize,
     work: &mut [u8],
+    constants: &[u32; 64],
 ) -> Rows
-    requires { ⌜ Ready (now work) n × (0 < n) × (leaf + 77 ≤ length (now answer)) × (start ≤ length (now answer)) × (end ≤ length (now answer)) ⌝ }
+    requires { ⌜ (Ready (now work) n × (0 < n) × (leaf + 77 ≤ length (now answer)) × (start ≤ length (now answer)) × (end ≤ length (now answer))) × (now constants ≡ K) ⌝ }
     ensures { λ r. ⌜ r ≡ rowsOf (trace-rows (wayOf way) (leaf-in-answer (now (answer .entry)) leaf) (trace-in (now (answer .entry)) (now (work .entry)) start n end)) ⌝ }
 {
     if end < answer.len() {
@@ -193,7 +211,7 @@ fn trace_rows(
             position: position,
         };
     }
-    found_rows(way, answer, leaf, start, n, work)
+    found_rows(way, answer, leaf, start, n, work, constants)
 }
 
 // ---- a run of the check
@@ -246,11 +264,12 @@ fn traced(
     n: usize,
     end: usize,
     work: &mut [u8],
+    constants: &[u32; 64],
 ) -> Run
-    requires { ⌜ Ready (now work) n × (0 < n) × (leaf + 77 ≤ length (now answer)) × (at + 5 ≤ length (now answer)) × (end ≤ length (now answer)) ⌝ }
+    requires { ⌜ (Ready (now work) n × (0 < n) × (leaf + 77 ≤ length (now answer)) × (at + 5 ≤ length (now answer)) × (end ≤ length (now answer))) × (now constants ≡ K) ⌝ }
     ensures { λ r. ⌜ ((size : ℕ) → Traced (wayOf way) size (now (answer .entry)) at (now (work .entry)) n end → RunIs (now (answer .entry)) (with-trace (wayOf way) size (found-proof (now (answer .entry)) leaf at) (leaf-in-answer (now (answer .entry)) leaf)) r) ⌝ }
 {
-    match trace_rows(way, answer, leaf, at, n, end, work) {
+    match trace_rows(way, answer, leaf, at, n, end, work, constants) {
         Rows::Refused { number, position } => refused(number, position),
         Rows::Passed => {
             let time = proof_reader::leaf_time(answer, leaf);
@@ -269,19 +288,33 @@ fn traced(
 }
 
 // A trace behind the proof, which ended at the leaf.
-fn with_trace(way: Way, answer: &[u8], leaf: usize, at: usize, work: &mut [u8]) -> Run
-    requires { ⌜ (leaf + 77 ≤ length (now answer)) × (at ≤ length (now answer)) ⌝ }
+fn with_trace(
+    way: Way,
+    answer: &[u8],
+    leaf: usize,
+    at: usize,
+    work: &mut [u8],
+    constants: &[u32; 64],
+) -> Run
+    requires { ⌜ ((leaf + 77 ≤ length (now answer)) × (at ≤ length (now answer))) × (now constants ≡ K) ⌝ }
     ensures { λ r. ⌜ RunIs (now (answer .entry)) (with-trace (wayOf way) (length (now (work .entry))) (found-proof (now (answer .entry)) leaf at) (leaf-in-answer (now (answer .entry)) leaf)) r ⌝ }
 {
     match trace_reader::read_trace(answer, at, way, work) {
         Trace::Refused { number, position } => refused(number, position),
-        Trace::Read { count, end } => traced(way, answer, leaf, at, count, end, work),
+        Trace::Read { count, end } => traced(way, answer, leaf, at, count, end, work, constants),
     }
 }
 
 // The proof ended at the leaf: direction 0 asks for no trace.
-fn found(direction: u8, answer: &[u8], leaf: usize, at: usize, work: &mut [u8]) -> Run
-    requires { ⌜ (direction ≤ 2) × (leaf + 77 ≤ length (now answer)) × (at ≤ length (now answer)) ⌝ }
+fn found(
+    direction: u8,
+    answer: &[u8],
+    leaf: usize,
+    at: usize,
+    work: &mut [u8],
+    constants: &[u32; 64],
+) -> Run
+    requires { ⌜ ((direction ≤ 2) × (leaf + 77 ≤ length (now answer)) × (at ≤ length (now answer))) × (now constants ≡ K) ⌝ }
     ensures { λ r. ⌜ ((s t : ℕ) (q : Question) → question direction s t ≡ ok q → RunIs (now (answer .entry)) (check-end (q .part) (length (now (work .entry))) (found-proof (now (answer .entry)) leaf at) (SearchEnd.found (leaf-in-answer (now (answer .entry)) leaf))) r) ⌝ }
 {
     if direction == 0 {
@@ -296,9 +329,9 @@ fn found(direction: u8, answer: &[u8], leaf: usize, at: usize, work: &mut [u8]) 
         );
     }
     if direction == 1 {
-        return with_trace(Way::Backward, answer, leaf, at, work);
+        return with_trace(Way::Backward, answer, leaf, at, work, constants);
     }
-    with_trace(Way::Forward, answer, leaf, at, work)
+    with_trace(Way::Forward, answer, leaf, at, work, constants)
 }
 
 // Rows 11 and 14, the proof, the trace; the work area is left as it comes.
@@ -318,11 +351,12 @@ fn run_check(
     if commitment.len() != 32 {
         return refused(14, 0);
     }
-    match proof_reader::check_proof(LETTER_R, entity, time, commitment, answer, 0) {
+    let constants = round_constants::work_out();
+    match proof_reader::check_proof(LETTER_R, entity, time, commitment, answer, 0, &constants) {
         Proof::Refused { number, position } => refused(number, position),
         Proof::NoEntity { at } => without_trace(answer, at, Checking::NoEntity),
         Proof::NotYet { at } => without_trace(answer, at, Checking::NotYet),
-        Proof::Found { leaf, at } => found(direction, answer, leaf, at, work),
+        Proof::Found { leaf, at } => found(direction, answer, leaf, at, work, &constants),
     }
 }
 

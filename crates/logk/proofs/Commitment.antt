@@ -3,24 +3,24 @@ use mathlib.Core.Path.{_≡_, refl, ap, ap₂, _∙_}
 use mathlib.Core.List.{List, [], _∷_, _++_, map}
 use Prim.Native.Nat.{ℕ}
 use Rattle.fields.specs.Fields.{encode, decode, part, field}
-use Rattle.sha256.specs.Sha256.{zeros, padding, padded, words, nextWord, extended, schedule, round, rounds, sums, bytes}
+use Rattle.round_constants.specs.Constants.{undivided, prime, primesFrom, primes, rootFrom, root, fraction, K}
+use Rattle.sha256.specs.Sha256.{zeros, padding, padded, H0, words, nextWord, extended, schedule, round, rounds, sums, compress, hashed, bytes, sha256}
 use Rattle.model.specs.Numbers.{Bytes, H, counting}
 use Rattle.model.specs.Graph.{InEdge, temporal, dependency, VersionNode}
 use Rattle.model.specs.Digest.{edge-string, edge-part, links-string, incoming-string, outgoing-string, incoming-links, incoming, incoming-digests, links-from, outgoing-links, outgoing, outgoing-digests}
 use Rattle.model.specs.Accumulator.{letter-N, letter-P, Subtree, branch-string, parent, Tree, tip, branch, leaf-string, VersionLeaf, versions-layout, Group, entities-layout, subtree, group-string, root-string, entities, leaf-at, version-leaves, group, tree, no-group, entity-tree, commitment}
 use Rattle.model.specs.Answer.{log-header, log-commitment}
-use Rattle.sha256.proofs.Computing.{blocks, written-out, written-out-is}
-use Rattle.model.proofs.LogK.{computed, K}
+use Rattle.model.proofs.LogK.{computed, K as LogK}
 
 -- opens what a digest is computed with: all that is shut but H
 hashing : Unit {0}
-unfolding computed encode decode part field zeros padding padded words nextWord extended schedule round rounds sums bytes blocks written-out edge-string edge-part links-string incoming-string outgoing-string incoming-links links-from outgoing-links
+unfolding computed encode decode part field zeros padding padded words nextWord extended schedule round rounds sums undivided prime primesFrom primes rootFrom root fraction K H0 compress hashed bytes sha256 edge-string edge-part links-string incoming-string outgoing-string incoming-links links-from outgoing-links
 hashing = tt
 
 -- a digest computed
-by-digest : (m d : Bytes) → written-out m ≡ d → H m ≡ d
+by-digest : (m d : Bytes) → sha256 m ≡ d → H m ≡ d
 unfolding H
-by-digest m d e = written-out-is m ∙ e
+by-digest m d e = e
 
 -- ---- the graph
 
@@ -266,14 +266,14 @@ top-is =
     ∙ ap₂ (λ (a b : Bytes). parent letter-P (known 1 1 a) (known 2 2 b)) group-1 group-2
     ∙ ap (known 1 2) entities-branch
 
-root-digest : H (root-string (log-header K) 2 (known 1 2 P)) ≡ R
+root-digest : H (root-string (log-header LogK) 2 (known 1 2 P)) ≡ R
 unfolding hashing
 root-digest = by-digest _ _ refl
 
 -- two independent implementations agree on it
-pub K-commitment : log-commitment K ≡ encode 32 0xafa480e13388337b3ec74fcea39db57dddd6320386af49166a8fbf0d6f4511e1
+pub K-commitment : log-commitment LogK ≡ encode 32 0xafa480e13388337b3ec74fcea39db57dddd6320386af49166a8fbf0d6f4511e1
 unfolding computed log-commitment commitment
 K-commitment =
-    ap (λ (t : Tree Group). H (root-string (log-header K) 2 (subtree entities-layout t))) tree-is
-    ∙ ap (λ (k : Subtree). H (root-string (log-header K) 2 k)) top-is
+    ap (λ (t : Tree Group). H (root-string (log-header LogK) 2 (subtree entities-layout t))) tree-is
+    ∙ ap (λ (k : Subtree). H (root-string (log-header LogK) 2 k)) top-is
     ∙ root-digest

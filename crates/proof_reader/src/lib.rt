@@ -9,6 +9,7 @@ ghost use mathlib.Core.Path.{_≡_};
 ghost use Prim.Native.Nat.{_+_, _≤_};
 ghost use lib.ListN.{length, take, drop};
 ghost use Rattle.fields.specs.Fields.{part, field};
+ghost use Rattle.round_constants.specs.Constants.{K};
 ghost use Rattle.model.specs.Accumulator.{versions-layout, entities-layout};
 ghost use Rattle.model.specs.Question.{Question, at-or-before, by-entity, by-time};
 ghost use Rattle.model.specs.CheckRows.{subtree-in, leaf-in, check-proof};
@@ -30,8 +31,9 @@ fn take_string(
     width: usize,
     digests: &[u8],
     due: usize,
+    constants: &[u32; 64],
 ) -> Taking
-    requires { ⌜ (at ≤ length (now answer)) × (due + 32 ≤ length (now digests)) ⌝ }
+    requires { ⌜ ((at ≤ length (now answer)) × (due + 32 ≤ length (now digests))) × (now constants ≡ K) ⌝ }
     ensures { λ r. ⌜ Takes (now (answer .entry)) at letter width (part (now (digests .entry)) due 32) r ⌝ }
 {
     let left = answer.len() - at;
@@ -45,7 +47,7 @@ fn take_string(
         return Taking::Refused { number: 15 };
     }
     let end = at + width;
-    let digest = sha256::digest(&answer[at..end]);
+    let digest = sha256::digest(&answer[at..end], constants);
     if fields::same(&digest, 0, digests, due, 32) {
         return Taking::Taken;
     }
@@ -60,19 +62,27 @@ enum Opening {
 }
 
 // Takes the string of a subtree, which is known by the 48 bytes at a place of the answer: a leaf's if its keys are equal.
-fn open(answer: &[u8], at: usize, known: usize, leaf: u8, width: usize, inner: u8) -> Opening
-    requires { ⌜ (at ≤ length (now answer)) × (known + 48 ≤ length (now answer)) ⌝ }
+fn open(
+    answer: &[u8],
+    at: usize,
+    known: usize,
+    leaf: u8,
+    width: usize,
+    inner: u8,
+    constants: &[u32; 64],
+) -> Opening
+    requires { ⌜ ((at ≤ length (now answer)) × (known + 48 ≤ length (now answer))) × (now constants ≡ K) ⌝ }
     ensures { λ r. ⌜ Opens leaf width inner (now (answer .entry)) at (subtree-in (now (answer .entry)) known) r ⌝ }
 {
     let least = fields::get_u64(answer, known);
     let greatest = fields::get_u64(answer, known + 8);
     if least == greatest {
-        return match take_string(answer, at, leaf, width, answer, known + 16) {
+        return match take_string(answer, at, leaf, width, answer, known + 16, constants) {
             Taking::Taken => Opening::Leaf,
             Taking::Refused { number } => Opening::Refused { number: number },
         };
     }
-    match take_string(answer, at, inner, 97, answer, known + 16) {
+    match take_string(answer, at, inner, 97, answer, known + 16, constants) {
         Taking::Taken => Opening::Inner,
         Taking::Refused { number } => Opening::Refused { number: number },
     }
@@ -164,14 +174,20 @@ enum Step {
 }
 
 // In the tree of entities: the string G or P.
-fn entity_step(answer: &[u8], at: usize, tree: EntityTreeAt, entity: EntityKey) -> Step
-    requires { ⌜ (at ≤ length (now answer)) × (tree .0 + 48 ≤ length (now answer)) ⌝ }
+fn entity_step(
+    answer: &[u8],
+    at: usize,
+    tree: EntityTreeAt,
+    entity: EntityKey,
+    constants: &[u32; 64],
+) -> Step
+    requires { ⌜ ((at ≤ length (now answer)) × (tree .0 + 48 ≤ length (now answer))) × (now constants ≡ K) ⌝ }
     ensures { λ r. ⌜ Steps entities-layout (by-entity (entity .0)) (now (answer .entry)) at (tree .0) r ⌝ }
 {
     if outside(answer, tree, entity) {
         return Step::Stops;
     }
-    match open(answer, at, tree.0, LETTER_G, 57, LETTER_P) {
+    match open(answer, at, tree.0, LETTER_G, 57, LETTER_P, constants) {
         Opening::Refused { number } => Step::Refused { number: number },
         Opening::Leaf => Step::Leaf,
         Opening::Inner => {
@@ -182,14 +198,20 @@ fn entity_step(answer: &[u8], at: usize, tree: EntityTreeAt, entity: EntityKey) 
 }
 
 // In one entity's tree: the string L or N.
-fn version_step(answer: &[u8], at: usize, tree: VersionTreeAt, time: TimeKey) -> Step
-    requires { ⌜ (at ≤ length (now answer)) × (tree .0 + 48 ≤ length (now answer)) ⌝ }
+fn version_step(
+    answer: &[u8],
+    at: usize,
+    tree: VersionTreeAt,
+    time: TimeKey,
+    constants: &[u32; 64],
+) -> Step
+    requires { ⌜ ((at ≤ length (now answer)) × (tree .0 + 48 ≤ length (now answer))) × (now constants ≡ K) ⌝ }
     ensures { λ r. ⌜ Steps versions-layout (by-time at-or-before (time .0)) (now (answer .entry)) at (tree .0) r ⌝ }
 {
     if before(answer, tree, time) {
         return Step::Stops;
     }
-    match open(answer, at, tree.0, LETTER_L, 77, LETTER_N) {
+    match open(answer, at, tree.0, LETTER_L, 77, LETTER_N, constants) {
         Opening::Refused { number } => Step::Refused { number: number },
         Opening::Leaf => Step::Leaf,
         Opening::Inner => {
@@ -210,14 +232,20 @@ pub enum Proof {
 }
 
 // The walk in one entity's tree. Its depth has no bound, so it is a loop, and so is the other.
-fn walk_versions(answer: &[u8], start: usize, root: VersionTreeAt, time: TimeKey) -> Proof
-    requires { ⌜ (start ≤ length (now answer)) × (root .0 + 48 ≤ length (now answer)) ⌝ }
+fn walk_versions(
+    answer: &[u8],
+    start: usize,
+    root: VersionTreeAt,
+    time: TimeKey,
+    constants: &[u32; 64],
+) -> Proof
+    requires { ⌜ ((start ≤ length (now answer)) × (root .0 + 48 ≤ length (now answer))) × (now constants ≡ K) ⌝ }
     ensures { λ r. ⌜ ProofIs (now (answer .entry)) (versions-at (time .0) (now (answer .entry)) start (root .0)) r ⌝ }
 {
     let mut next = start;
     let mut tree = root;
     loop {
-        match version_step(answer, next, tree, time) {
+        match version_step(answer, next, tree, time, constants) {
             Step::Stops => {
                 return Proof::NotYet { at: next };
             }
@@ -249,14 +277,15 @@ fn walk_entities(
     root: EntityTreeAt,
     entity: EntityKey,
     time: TimeKey,
+    constants: &[u32; 64],
 ) -> Proof
-    requires { ⌜ (start ≤ length (now answer)) × (root .0 + 48 ≤ length (now answer)) ⌝ }
+    requires { ⌜ ((start ≤ length (now answer)) × (root .0 + 48 ≤ length (now answer))) × (now constants ≡ K) ⌝ }
     ensures { λ r. ⌜ ProofIs (now (answer .entry)) (entities-at (entity .0) (time .0) (now (answer .entry)) start (root .0)) r ⌝ }
 {
     let mut next = start;
     let mut tree = root;
     loop {
-        match entity_step(answer, next, tree, entity) {
+        match entity_step(answer, next, tree, entity, constants) {
             Step::Stops => {
                 return Proof::NoEntity { at: next };
             }
@@ -267,7 +296,7 @@ fn walk_entities(
                 };
             }
             Step::Leaf => {
-                return walk_versions(answer, next + 57, VersionTreeAt(next + 9), time);
+                return walk_versions(answer, next + 57, VersionTreeAt(next + 9), time, constants);
             }
             Step::Inner { known } => {
                 tree = EntityTreeAt(known);
@@ -285,18 +314,26 @@ pub fn check_proof(
     commitment: &[u8],
     answer: &[u8],
     at: usize,
+    constants: &[u32; 64],
 ) -> Proof
-    requires { ⌜ (length (now commitment) ≡ 32) × (at ≤ length (now answer)) ⌝ }
+    requires { ⌜ ((length (now commitment) ≡ 32) × (at ≤ length (now answer))) × (now constants ≡ K) ⌝ }
     ensures { λ r. ⌜ ((q : Question) → q .relation ≡ at-or-before → q .entity ≡ entity .0 → q .time ≡ time .0 → ProofIs (now (answer .entry)) (check-proof letter q (now (commitment .entry)) at (drop at (now (answer .entry)))) r) ⌝ }
 {
-    match take_string(answer, at, letter, 65, commitment, 0) {
+    match take_string(answer, at, letter, 65, commitment, 0, constants) {
         Taking::Refused { number } => Proof::Refused {
             number: number,
             position: at,
         },
         Taking::Taken => {
             let known = at + 17;
-            walk_entities(answer, at + 65, EntityTreeAt(known), entity, time)
+            walk_entities(
+                answer,
+                at + 65,
+                EntityTreeAt(known),
+                entity,
+                time,
+                constants,
+            )
         }
     }
 }

@@ -14,6 +14,7 @@ ghost use Prim.Native.Nat.{ℕ, _+_, _-_, _*_, _≤_, _<_};
 ghost use lib.Dec.{T, ltb, leb};
 ghost use lib.ListN.{length};
 ghost use Rattle.fields.specs.Fields.{field, written};
+ghost use Rattle.round_constants.specs.Constants.{K};
 ghost use Rattle.model.specs.Numbers.{joined};
 ghost use Rattle.model.specs.Graph.{VersionNode, node-at};
 ghost use Rattle.model.specs.Accumulator.{largest-power-below, is-entry, Group, entities-layout, leaf-string, root};
@@ -38,14 +39,14 @@ fn store_leaf(work: &mut [u8], i: usize, k: Subtree)
 }
 
 // The leaves of the tree of entities, and how many there are.
-fn put_entity_leaves(work: &mut [u8], n: usize) -> usize
-    requires { ⌜ HasGraph (now work) n ⌝ }
+fn put_entity_leaves(work: &mut [u8], n: usize, constants: &[u32; 64]) -> usize
+    requires { ⌜ (HasGraph (now work) n) × (now constants ≡ K) ⌝ }
     ensures { λ r. ⌜ ((ns : List VersionNode) → Graphed (now (work .entry)) n ns → EntityLeavesStored (now (work .entry)) (now (work .exit)) ns r) ⌝ }
 {
     let mut e: usize = 0;
     let mut i = trees::next_entry(work, 0, n);
     while i < n {
-        let leaf = trees::entity_leaf(work, i, n);
+        let leaf = trees::entity_leaf(work, i, n, constants);
         store_leaf(work, e, leaf.0);
         e += 1;
         i = trees::next_entry(work, i + 1, n);
@@ -54,14 +55,14 @@ fn put_entity_leaves(work: &mut [u8], n: usize) -> usize
 }
 
 // The leaves of an entity's tree, from the version that enters it on, and how many there are.
-fn put_version_leaves(work: &mut [u8], entry: usize, n: usize) -> usize
-    requires { ⌜ HasGraph (now work) n × (entry < n) × T (is-entry (node-in (now work) entry)) ⌝ }
+fn put_version_leaves(work: &mut [u8], entry: usize, n: usize, constants: &[u32; 64]) -> usize
+    requires { ⌜ (HasGraph (now work) n × (entry < n) × T (is-entry (node-in (now work) entry))) × (now constants ≡ K) ⌝ }
     ensures { λ r. ⌜ ((ns : List VersionNode) → Graphed (now (work .entry)) n ns → VersionLeavesStored (now (work .entry)) (now (work .exit)) ns (node-at ns entry .entity) r) ⌝ }
 {
     let mut count: usize = 0;
     let mut i = entry;
     while i < NO_SLOT {
-        let leaf = trees::leaf_of(work, i);
+        let leaf = trees::leaf_of(work, i, constants);
         store_leaf(work, count, leaf.0);
         count += 1;
         i = graph::get_next(work, i) as usize;
@@ -302,12 +303,18 @@ fn plan_entity(work: &[u8], n: usize, path: EntityPath, entity: EntityKey, time:
 }
 
 // Stores the leaves of the entities and plans the proof.
-pub fn plan(work: &mut [u8], n: usize, entity: EntityKey, time: TimeKey) -> Planned
-    requires { ⌜ HasGraph (now work) n ⌝ }
+pub fn plan(
+    work: &mut [u8],
+    n: usize,
+    entity: EntityKey,
+    time: TimeKey,
+    constants: &[u32; 64],
+) -> Planned
+    requires { ⌜ (HasGraph (now work) n) × (now constants ≡ K) ⌝ }
     ensures plan { λ r. ⌜ Plan (now (work .exit)) n (entity .0) (time .0) r ⌝ }
     ensures kept { λ _. ⌜ Kept (columns 84 124 ∷ []) (now (work .entry)) (now (work .exit)) ⌝ }
 {
-    let count = put_entity_leaves(work, n);
+    let count = put_entity_leaves(work, n, constants);
     match seek_entity(work, count, entity) {
         Sought::Absent { target, depth } => Planned::NoEntity {
             length: 65 + 97 * depth,
@@ -352,8 +359,15 @@ pub fn proof_length(plan: Planned) -> usize
 // ---- writing
 
 // R and the strings P.
-fn put_front(work: &[u8], n: usize, last: TimeKey, path: EntityPath, out: &mut [u8])
-    requires { ⌜ HasGraph (now work) n × PathFits (now work) path × (65 + 97 * path .depth ≤ length (now out)) ⌝ }
+fn put_front(
+    work: &[u8],
+    n: usize,
+    last: TimeKey,
+    path: EntityPath,
+    out: &mut [u8],
+    constants: &[u32; 64],
+)
+    requires { ⌜ (HasGraph (now work) n × PathFits (now work) path × (65 + 97 * path .depth ≤ length (now out))) × (now constants ≡ K) ⌝ }
     ensures { λ _. ⌜ ((ns : List VersionNode) → Graphed (now (work .entry)) n ns → PathIs (now (work .entry)) ns path → now (out .exit) ≡ written (now (out .entry)) 0 (joined (root (headerOf n last) ns ∷ entity-path ns path))) ⌝ }
 {
     let count = path.count;
@@ -368,6 +382,7 @@ fn put_front(work: &[u8], n: usize, last: TimeKey, path: EntityPath, out: &mut [
         path.depth,
         out,
         65,
+        constants,
     );
     accumulator::put_root(out, 0, count as u32, n as u32, last, EntityTree(tree));
 }
@@ -381,12 +396,13 @@ fn put_entity(
     depth: usize,
     out: &mut [u8],
     at: usize,
+    constants: &[u32; 64],
 )
-    requires { ⌜ EntityFits (now work) n entry index depth (length (now out)) at ⌝ }
+    requires { ⌜ (EntityFits (now work) n entry index depth (length (now out)) at) × (now constants ≡ K) ⌝ }
     ensures strings { λ _. ⌜ ((ns : List VersionNode) → Graphed (now (work .entry)) n ns → EntityPut ns (node-at ns entry .entity) index depth (now (out .entry)) (now (out .exit)) at) ⌝ }
     ensures kept { λ _. ⌜ Kept (columns 84 124 ∷ []) (now (work .entry)) (now (work .exit)) ⌝ }
 {
-    let count = put_version_leaves(work, entry, n);
+    let count = put_version_leaves(work, entry, n, constants);
     let tree = accumulator::put_path(
         LETTER_N,
         work,
@@ -398,6 +414,7 @@ fn put_entity(
         depth,
         out,
         at + 57,
+        constants,
     );
     let entity = graph::entity_of(work, entry);
     accumulator::put_group(out, at, entity, VersionTree(tree));
@@ -423,13 +440,23 @@ fn put_walk(
     index: usize,
     depth: usize,
     out: &mut [u8],
+    constants: &[u32; 64],
 )
-    requires { ⌜ PathFits (now work) path × EntityFits (now work) n entry index depth (length (now out)) (65 + 97 * path .depth) ⌝ }
+    requires { ⌜ (PathFits (now work) path × EntityFits (now work) n entry index depth (length (now out)) (65 + 97 * path .depth)) × (now constants ≡ K) ⌝ }
     ensures strings { λ _. ⌜ ((ns : List VersionNode) → Graphed (now (work .entry)) n ns → PathIs (now (work .entry)) ns path → now (out .exit) ≡ written (now (out .entry)) 0 (front-bytes (headerOf n last) ns path entry index depth)) ⌝ }
     ensures kept { λ _. ⌜ Kept (columns 84 124 ∷ []) (now (work .entry)) (now (work .exit)) ⌝ }
 {
-    put_front(work, n, last, path, out);
-    put_entity(work, n, entry, index, depth, out, 65 + 97 * path.depth);
+    put_front(work, n, last, path, out, constants);
+    put_entity(
+        work,
+        n,
+        entry,
+        index,
+        depth,
+        out,
+        65 + 97 * path.depth,
+        constants,
+    );
 }
 
 // The same, and L.
@@ -443,28 +470,36 @@ fn put_found(
     index: usize,
     depth: usize,
     out: &mut [u8],
+    constants: &[u32; 64],
 )
-    requires { ⌜ PathFits (now work) path × EntityFits (now work) n entry index depth (length (now out)) (65 + 97 * path .depth) × (slot < n) × (199 + 97 * path .depth + 97 * depth ≤ length (now out)) ⌝ }
+    requires { ⌜ (PathFits (now work) path × EntityFits (now work) n entry index depth (length (now out)) (65 + 97 * path .depth) × (slot < n) × (199 + 97 * path .depth + 97 * depth ≤ length (now out))) × (now constants ≡ K) ⌝ }
     ensures strings { λ _. ⌜ ((ns : List VersionNode) → Graphed (now (work .entry)) n ns → PathIs (now (work .entry)) ns path → FoundIs ns (node-at ns entry .entity) entry slot index depth → now (out .exit) ≡ written (now (out .entry)) 0 (front-bytes (headerOf n last) ns path entry index depth ++ leaf-string (version-at ns slot .leaf))) ⌝ }
     ensures kept { λ _. ⌜ Kept (columns 84 124 ∷ []) (now (work .entry)) (now (work .exit)) ⌝ }
 {
-    put_walk(work, n, last, path, entry, index, depth, out);
+    put_walk(work, n, last, path, entry, index, depth, out, constants);
     put_version(work, n, slot, out, 122 + 97 * path.depth + 97 * depth);
 }
 
 // Writes the proof that was planned. After it, other leaves are stored than before.
-pub fn write(plan: Planned, work: &mut [u8], n: usize, last: TimeKey, out: &mut [u8])
-    requires { ⌜ HasPlan (now work) n plan × (length-of plan ≤ length (now out)) ⌝ }
+pub fn write(
+    plan: Planned,
+    work: &mut [u8],
+    n: usize,
+    last: TimeKey,
+    out: &mut [u8],
+    constants: &[u32; 64],
+)
+    requires { ⌜ (HasPlan (now work) n plan × (length-of plan ≤ length (now out))) × (now constants ≡ K) ⌝ }
     ensures proof { λ _. ⌜ ((x t : ℕ) → Plan (now (work .entry)) n x t plan → (ns : List VersionNode) → Graphed (now (work .entry)) n ns → (q : Question) → Asks q x t → now (out .exit) ≡ written (now (out .entry)) 0 (joined (proof (headerOf n last) ns q .opened))) ⌝ }
     ensures kept { λ _. ⌜ Kept (columns 84 124 ∷ []) (now (work .entry)) (now (work .exit)) ⌝ }
 {
     match plan {
-        Planned::NoEntity { length, path } => put_front(work, n, last, path, out),
+        Planned::NoEntity { length, path } => put_front(work, n, last, path, out, constants),
         Planned::NotYet {
             length,
             path,
             entry,
-        } => put_walk(work, n, last, path, entry, 0, 0, out),
+        } => put_walk(work, n, last, path, entry, 0, 0, out, constants),
         Planned::Found {
             length,
             path,
@@ -472,6 +507,17 @@ pub fn write(plan: Planned, work: &mut [u8], n: usize, last: TimeKey, out: &mut 
             slot,
             index,
             depth,
-        } => put_found(work, n, last, path, entry, slot, index, depth, out),
+        } => put_found(
+            work,
+            n,
+            last,
+            path,
+            entry,
+            slot,
+            index,
+            depth,
+            out,
+            constants,
+        ),
     }
 }

@@ -3,8 +3,6 @@ pub mod Size
 mod Bits
 mod Rotations
 mod Sums
-pub mod Roots
-pub mod Computing
 mod Schedule
 mod Messages
 mod Padding

@@ -4,79 +4,12 @@ ghost use mathlib.Core.List.{List, [], _++_};
 ghost use Prim.Native.Nat.{ℕ, _+_, _-_, _*_, _/_, _%_, _^_, _<_, _≤_};
 ghost use lib.ListN.{length, getD, take, replicate};
 ghost use Rattle.fields.specs.Fields.{part};
+ghost use Rattle.round_constants.specs.Constants.{K};
 ghost use Rattle.sha256.specs.Sha256.{_⊞_, Ch, Maj, Σ0, Σ1, σ0, σ1, H0, words, extended, T1, T2, round, rounds, sums, compress, hashed, bytes, sha256};
 ghost use Rattle.sha256.specs.State.{Scheduled, ending, Held, Absorbed};
 ghost use Rattle.sha256.specs.Hash.{hashResult, hashOutput};
 use std::num::wrapping_add_u32;
 use std::num::wrapping_add_u64;
-
-// The constants of section 4.2.2.
-const ROUND: [u32; 64] = [
-    0x428a2f98,
-    0x71374491,
-    0xb5c0fbcf,
-    0xe9b5dba5,
-    0x3956c25b,
-    0x59f111f1,
-    0x923f82a4,
-    0xab1c5ed5,
-    0xd807aa98,
-    0x12835b01,
-    0x243185be,
-    0x550c7dc3,
-    0x72be5d74,
-    0x80deb1fe,
-    0x9bdc06a7,
-    0xc19bf174,
-    0xe49b69c1,
-    0xefbe4786,
-    0x0fc19dc6,
-    0x240ca1cc,
-    0x2de92c6f,
-    0x4a7484aa,
-    0x5cb0a9dc,
-    0x76f988da,
-    0x983e5152,
-    0xa831c66d,
-    0xb00327c8,
-    0xbf597fc7,
-    0xc6e00bf3,
-    0xd5a79147,
-    0x06ca6351,
-    0x14292967,
-    0x27b70a85,
-    0x2e1b2138,
-    0x4d2c6dfc,
-    0x53380d13,
-    0x650a7354,
-    0x766a0abb,
-    0x81c2c92e,
-    0x92722c85,
-    0xa2bfe8a1,
-    0xa81a664b,
-    0xc24b8b70,
-    0xc76c51a3,
-    0xd192e819,
-    0xd6990624,
-    0xf40e3585,
-    0x106aa070,
-    0x19a4c116,
-    0x1e376c08,
-    0x2748774c,
-    0x34b0bcb5,
-    0x391c0cb3,
-    0x4ed8aa4a,
-    0x5b9cca4f,
-    0x682e6ff3,
-    0x748f82ee,
-    0x78a5636f,
-    0x84c87814,
-    0x8cc70208,
-    0x90befffa,
-    0xa4506ceb,
-    0xbef9a3f7,
-    0xc67178f2,
-];
 
 // The four sigmas, with rotations nested in each other: fewer values are held at a time. A round waits for Σ1 longest, so two of its
 // rotations stand side by side.
@@ -242,20 +175,18 @@ fn added(h: [u32; 8], v: [u32; 8]) -> [u32; 8]
     r
 }
 
-// The hash value after the block at a place. The table is copied once a block: read from where it stands, all of it is copied in
-// each turn of the loop.
-fn compressed(h: [u32; 8], m: &[u8], at: usize) -> [u32; 8]
-    requires { ⌜ at + 64 ≤ length (now m) ⌝ }
+// The hash value after the block at a place. The 64 constants are lent by the caller, who works them out once.
+fn compressed(h: [u32; 8], m: &[u8], at: usize, constants: &[u32; 64]) -> [u32; 8]
+    requires { ⌜ (at + 64 ≤ length (now m)) × (now constants ≡ K) ⌝ }
     ensures { λ r. ⌜ r ≡ compress h (part (now (m .entry)) at 64) ⌝ }
 {
-    let k = ROUND;
     let mut w = [0u32; 64];
     load(&mut w, m, at);
     extend(&mut w);
     let mut v = h;
     let mut t: usize = 0;
     while t < 64 {
-        let next = eight_rounds(v, &w, &k, t);
+        let next = eight_rounds(v, &w, constants, t);
         v = next;
         t += 8;
     }
@@ -263,14 +194,14 @@ fn compressed(h: [u32; 8], m: &[u8], at: usize) -> [u32; 8]
 }
 
 // The hash value after the n blocks from a place on.
-fn blocks(h: [u32; 8], m: &[u8], at: usize, n: usize) -> [u32; 8]
-    requires { ⌜ at + 64 * n ≤ length (now m) ⌝ }
+fn blocks(h: [u32; 8], m: &[u8], at: usize, n: usize, constants: &[u32; 64]) -> [u32; 8]
+    requires { ⌜ (at + 64 * n ≤ length (now m)) × (now constants ≡ K) ⌝ }
     ensures { λ r. ⌜ r ≡ hashed n (now (m .entry)) at h ⌝ }
 {
     let mut x = h;
     let mut j: usize = 0;
     while j < n {
-        let next = compressed(x, m, at + 64 * j);
+        let next = compressed(x, m, at + 64 * j, constants);
         x = next;
         j += 1;
     }
@@ -300,13 +231,13 @@ fn word_bytes(h: [u32; 8]) -> [u8; 32]
 }
 
 // The digest of a message of which h holds the whole blocks and m, at a place, the n bytes after them.
-fn closed(h: [u32; 8], m: &[u8], at: usize, n: usize, bits: u64) -> [u8; 32]
-    requires { ⌜ (n < 64) × (at + n ≤ length (now m)) ⌝ }
+fn closed(h: [u32; 8], m: &[u8], at: usize, n: usize, bits: u64, constants: &[u32; 64]) -> [u8; 32]
+    requires { ⌜ (n < 64) × ((at + n ≤ length (now m)) × (now constants ≡ K)) ⌝ }
     ensures { λ r. ⌜ r ≡ bytes (hashed ((n + 72) / 64) (ending (part (now (m .entry)) at n) bits) 0 h) ⌝ }
 {
     let mut end = [0u8; 128];
     pad_end(&mut end, m, at, n, bits);
-    word_bytes(blocks(h, &end, 0, (n + 72) / 64))
+    word_bytes(blocks(h, &end, 0, (n + 72) / 64, constants))
 }
 
 // The initial hash value of section 5.3.3.
@@ -335,13 +266,14 @@ fn in_bits(n: u64) -> u64
 }
 
 // The digest of a slice.
-pub fn digest(m: &[u8]) -> [u8; 32]
+pub fn digest(m: &[u8], constants: &[u32; 64]) -> [u8; 32]
+    requires { ⌜ now constants ≡ K ⌝ }
     ensures { λ r. ⌜ r ≡ sha256 (now (m .entry)) ⌝ }
 {
     let n = m.len();
     let rest = n % 64;
-    let h = blocks(initial(), m, 0, n / 64);
-    closed(h, m, n - rest, rest, in_bits(n as u64))
+    let h = blocks(initial(), m, 0, n / 64, constants);
+    closed(h, m, n - rest, rest, in_bits(n as u64), constants)
 }
 
 // What `hash` answers: the digest is written, or a row of the table turns the call away.
@@ -361,7 +293,8 @@ pub fn hash(message: &[u8], out: &mut [u8]) -> Hashing
             position: 0,
         };
     }
-    let d = digest(message);
+    let constants = round_constants::work_out();
+    let d = digest(message, &constants);
     fields::copy(out, 0, &d, 0, 32);
     Hashing::Written
 }
@@ -397,20 +330,20 @@ fn placed(b: [u8; 64], fill: usize, s: &[u8], from: usize, n: usize) -> [u8; 64]
 }
 
 // The hash value once the block that was begun is full.
-fn completed(h: [u32; 8], b: [u8; 64], fill: usize, s: &[u8]) -> [u32; 8]
-    requires { ⌜ (fill < 64) × (64 ≤ fill + length (now s)) ⌝ }
+fn completed(h: [u32; 8], b: [u8; 64], fill: usize, s: &[u8], constants: &[u32; 64]) -> [u32; 8]
+    requires { ⌜ (fill < 64) × ((64 ≤ fill + length (now s)) × (now constants ≡ K)) ⌝ }
     ensures { λ r. ⌜ ((m : List ℕ) → Held h b fill m → Held r [] 0 (m ++ part (now (s .entry)) 0 ((64 - fill) % 64))) ⌝ }
 {
     if fill == 0 {
         return h;
     }
     let x = placed(b, fill, s, 0, 64 - fill);
-    blocks(h, &x, 0, 1)
+    blocks(h, &x, 0, 1, constants)
 }
 
 // The message with more bytes at its end. Whole blocks are read where they stand.
-pub fn absorb(s: State, more: &[u8]) -> State
-    requires { ⌜ s .fill < 64 ⌝ }
+pub fn absorb(s: State, more: &[u8], constants: &[u32; 64]) -> State
+    requires { ⌜ (s .fill < 64) × (now constants ≡ K) ⌝ }
     ensures { λ r. ⌜ (r .fill < 64) × ((m : List ℕ) → Absorbed s m → Absorbed r (m ++ now (more .entry))) ⌝ }
 {
     let h = s.h;
@@ -429,8 +362,8 @@ pub fn absorb(s: State, more: &[u8]) -> State
     }
     let begun = (64 - fill) % 64;
     let rest = (n - begun) % 64;
-    let first = completed(h, block, fill, more);
-    let whole = blocks(first, more, begun, (n - begun) / 64);
+    let first = completed(h, block, fill, more, constants);
+    let whole = blocks(first, more, begun, (n - begun) / 64, constants);
     let b = placed(block, 0, more, n - rest, rest);
     State {
         h: whole,
@@ -440,12 +373,12 @@ pub fn absorb(s: State, more: &[u8]) -> State
     }
 }
 
-pub fn finish(s: State) -> [u8; 32]
-    requires { ⌜ s .fill < 64 ⌝ }
+pub fn finish(s: State, constants: &[u32; 64]) -> [u8; 32]
+    requires { ⌜ (s .fill < 64) × (now constants ≡ K) ⌝ }
     ensures { λ r. ⌜ ((m : List ℕ) → Absorbed s m → r ≡ sha256 m) ⌝ }
 {
     let h = s.h;
     let block = s.block;
     let fill = s.fill;
-    closed(h, &block, 0, fill, in_bits(s.total))
+    closed(h, &block, 0, fill, in_bits(s.total), constants)
 }

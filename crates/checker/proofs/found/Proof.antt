@@ -31,7 +31,7 @@ same-length-2 c = search needs
 
 returns-3 : tie.Need-returns-3
 unfolding wayOf
-returns-3 c = λ s t q e. found-fore _ _ _ _ _ _ s t q e (c .before .before .before .before .before .before .before .before .pre .0) (c .before .before .before .before .before .if1 .left) (c .before .before .before .before .if2 .left) (c .before .before .with-trace2 .ensures)
+returns-3 c = λ s t q e. found-fore _ _ _ _ _ _ s t q e (c .before .before .before .before .before .before .before .before .pre .0 .0) (c .before .before .before .before .before .if1 .left) (c .before .before .before .before .if2 .left) (c .before .before .with-trace2 .ensures)
 
 pub found-spec : {M : Type 1} → statement M
 found-spec =

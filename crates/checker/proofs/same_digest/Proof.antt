@@ -13,7 +13,7 @@ mul-same : tie.Need-mul-same
 mul-same c = search needs
 
 add-same : tie.Need-add-same
-add-same c = let h = column-few _ _ (c .before .column-of .ensures) in let r = c .before .before .before .before .before .before .before .before .pre .0 .room in search needs
+add-same c = let h = column-few _ _ (c .before .column-of .ensures) in let r = c .before .before .before .before .before .before .before .before .pre .0 .0 .room in search needs
 
 add-same-2 : tie.Need-add-same-2
 add-same-2 c = search needs
@@ -23,14 +23,14 @@ add-same-3 c = let h = column-few _ _ (c .before .column-of .ensures) in search 
 
 same-requires : tie.Need-same-requires
 same-requires c κs = let h = column-few _ _ (c .before .column-of .ensures) in
-    let r = c .before .before .before .before .before .before .before .before .pre .0 .room in
+    let r = c .before .before .before .before .before .before .before .before .pre .0 .0 .room in
     let s = c .before .before .before .before .put-digests .ensures .size in search needs
 
 same-length : tie.Need-same-length
 same-length c = search needs
 
 returns : tie.Need-returns
-returns c = digest-same _ _ _ _ _ _ _ _ (c .before .before .column-of .ensures) (c .before .before .before .before .before .put-digests .ensures) (c .before .before .before .before .before .before .before .before .before .pre .1) (c .before .before .before .before .before .before .before .before .before .pre .2) _ (c .same .ensures)
+returns c = digest-same _ _ _ _ _ _ _ _ (c .before .before .column-of .ensures) (c .before .before .before .before .before .put-digests .ensures) (c .before .before .before .before .before .before .before .before .before .pre .0 .1) (c .before .before .before .before .before .before .before .before .before .pre .0 .2) _ (c .same .ensures)
 
 pub same-digest-spec : {M : Type 1} → statement M
 same-digest-spec =

@@ -4,7 +4,7 @@ use Rattle.checker.proofs.traced.Statement.{statement}
 use Rattle.checker.proofs.traced.Tie as tie
 
 trace-rows-requires : tie.Need-trace-rows-requires
-trace-rows-requires c κs = search needs
+trace-rows-requires c κs = let p = c .before .before .before .pre in ((p .0 .0, p .0 .1, p .0 .2, search needs, p .0 .4), p .1)
 
 enum-known-number : tie.Need-enum-known-number
 enum-known-number c = search needs
@@ -34,7 +34,7 @@ same-length-2 : tie.Need-same-length-2
 same-length-2 c = search needs
 
 returns-2 : tie.Need-returns-2
-returns-2 c = rows-passed _ _ _ _ _ _ _ _ (c .before .before .before .before .before .trace-rows .ensures) _ (c .before .enum-told .given .1) (c .leaf-time .ensures) (c .before .before .before .before .before .before .before .before .before .pre .3)
+returns-2 c = rows-passed _ _ _ _ _ _ _ _ (c .before .before .before .before .before .trace-rows .ensures) _ (c .before .enum-told .given .1) (c .leaf-time .ensures) (c .before .before .before .before .before .before .before .before .before .pre .0 .3)
 
 pub traced-spec : {M : Type 1} → statement M
 traced-spec = tie.close (tie.spec trace-rows-requires enum-known-number refused-requires enum-told leaf-time-requires add-start sub-length same-length returns same-length-2 returns-2)

@@ -22,7 +22,7 @@ traced-requires c κs = let s = c .before .before .before .before .before .befor
     let a = s .args in
     let o = octets (now (a .answer)) (λ j. c .before .before .before .before .before .before .before .before .before .shared-slice-known .given j .fits) in
     let t = trace-told _ _ _ _ _ _ (c .before .before .before .before .before .before .read-trace .ensures) _ _ (c .before .before .count .given .1) o (search needs) in
-    (t .ready, t .some-record, s .pre .0, t .header, t .inside)
+    ((t .ready, t .some-record, s .pre .0 .0, t .header, t .inside), s .pre .1)
 
 same-length : tie.Need-same-length
 same-length c = search needs

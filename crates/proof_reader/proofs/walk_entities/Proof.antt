@@ -7,10 +7,10 @@ use Rattle.proof_reader.proofs.walk_entities.Statement.{statement}
 use Rattle.proof_reader.proofs.walk_entities.Tie as tie
 
 abbrev Inv-loop : tie.InvT-loop
-Inv-loop answer start entity time next₀ tree₀ next tree = Walking answer (entities-at (entity .0) (time .0) answer) next₀ (tree₀ .0) next (tree .0)
+Inv-loop answer start entity time constants next₀ tree₀ next tree = Walking answer (entities-at (entity .0) (time .0) answer) next₀ (tree₀ .0) next (tree .0)
 
 abbrev μ-loop : tie.MeasureT-loop
-μ-loop answer start entity time next₀ tree₀ next tree = length answer - next
+μ-loop answer start entity time constants next₀ tree₀ next tree = length answer - next
 
 loop-holds : tie.Need-loop-holds Inv-loop μ-loop
 loop-holds c = search walking
@@ -36,8 +36,8 @@ enum-told-2 c = search needs
 add-walk-versions : tie.Need-add-walk-versions Inv-loop μ-loop
 add-walk-versions c = search needs
 
-add-t12 : tie.Need-add-t12 Inv-loop μ-loop
-add-t12 c = search needs
+add-t13 : tie.Need-add-t13 Inv-loop μ-loop
+add-t13 c = search needs
 
 walk-versions-requires : tie.Need-walk-versions-requires Inv-loop μ-loop
 walk-versions-requires c κs =
@@ -72,7 +72,7 @@ walk-entities-spec =
     returns-2
     enum-told-2
     add-walk-versions
-    add-t12
+    add-t13
     walk-versions-requires
     returns-3
     enum-known-known

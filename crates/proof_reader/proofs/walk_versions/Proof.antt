@@ -7,10 +7,10 @@ use Rattle.proof_reader.proofs.walk_versions.Statement.{statement}
 use Rattle.proof_reader.proofs.walk_versions.Tie as tie
 
 abbrev Inv-loop : tie.InvT-loop
-Inv-loop answer start time next₀ tree₀ next tree = Walking answer (versions-at (time .0) answer) next₀ (tree₀ .0) next (tree .0)
+Inv-loop answer start time constants next₀ tree₀ next tree = Walking answer (versions-at (time .0) answer) next₀ (tree₀ .0) next (tree .0)
 
 abbrev μ-loop : tie.MeasureT-loop
-μ-loop answer start time next₀ tree₀ next tree = length answer - next
+μ-loop answer start time constants next₀ tree₀ next tree = length answer - next
 
 loop-holds : tie.Need-loop-holds Inv-loop μ-loop
 loop-holds c = search walking

@@ -10,14 +10,14 @@ use Rattle.proof_writer.proofs.put_entity_leaves.Statement.{statement}
 use Rattle.proof_writer.proofs.put_entity_leaves.Tie as tie
 
 abbrev Inv-loop : tie.InvT-loop
-Inv-loop work₀ n e₀ i₀ work e i = (ns : List VersionNode) → Graphed work₀ n ns → EntitiesStored work₀ work ns e i
+Inv-loop work₀ n constants e₀ i₀ work e i = (ns : List VersionNode) → Graphed work₀ n ns → EntitiesStored work₀ work ns e i
 
 abbrev μ-loop : tie.MeasureT-loop
-μ-loop work₀ n e₀ i₀ work e i = n - i
+μ-loop work₀ n constants e₀ i₀ work e i = n - i
 
 next-entry-requires : tie.Need-next-entry-requires Inv-loop μ-loop
 next-entry-requires c κs =
-    let G = c .before .before .pre .graphed in
+    let G = c .before .before .pre .0 .graphed in
     (omega arith, omega (arith, G .number, G .digested .room))
 
 loop-holds : tie.Need-loop-holds Inv-loop μ-loop
@@ -26,15 +26,15 @@ loop-holds c = λ ns G. entities-stored-none _ _ ns _ G (c .next-entry .ensures)
 entity-leaf-requires : tie.Need-entity-leaf-requires Inv-loop μ-loop
 entity-leaf-requires c κs =
     let s = c .before .before .before .before .before .before in
-    let R = s .pre in
+    let R = s .pre .0 in
     let l = c .before .before .loop in
     let E = l .inv (R .ns) (R .graphed) in
-    entities-ready (now (s .args .work)) _ _ (R .ns) _ _ (R .graphed) E (c .before .loop-test .taken)
+    (entities-ready (now (s .args .work)) _ _ (R .ns) _ _ (R .graphed) E (c .before .loop-test .taken), s .pre .1)
 
 store-leaf-requires : tie.Need-store-leaf-requires Inv-loop μ-loop
 store-leaf-requires c κs =
     let s = c .before .before .before .before .before .before .before .before in
-    let R = s .pre in
+    let R = s .pre .0 in
     let l = c .before .before .before .before .loop in
     let E = l .inv (R .ns) (R .graphed) in
     entities-room (now (s .args .work)) _ _ (R .ns) _ _ (R .graphed) E (c .before .before .before .loop-test .taken)
@@ -42,7 +42,7 @@ store-leaf-requires c κs =
 add-e : tie.Need-add-e Inv-loop μ-loop
 add-e c =
     let s = c .before .before .before .before .before .before .before .before .before .before .before in
-    let R = s .pre in
+    let R = s .pre .0 in
     let l = c .before .before .before .before .before .before .before .loop in
     let E = l .inv (R .ns) (R .graphed) in
     let f = entities-few (now (s .args .work)) _ _ (R .ns) _ _ (R .graphed) E in
@@ -57,7 +57,7 @@ add-next-entry c =
 next-entry-requires-2 : tie.Need-next-entry-requires-2 Inv-loop μ-loop
 next-entry-requires-2 c κs =
     let s = c .before .before .before .before .before .before .before .before .before .before .before .before in
-    let R = s .pre in
+    let R = s .pre .0 in
     let l = c .before .before .before .before .before .before .before .before .loop in
     let E = l .inv (R .ns) (R .graphed) in
     let z = entities-size (now (s .args .work)) _ _ (R .ns) _ _ (R .graphed) E in
@@ -79,7 +79,7 @@ loop-again c =
 same-length : tie.Need-same-length Inv-loop μ-loop
 same-length c =
     let s = c .before .before .before .before .before in
-    let R = s .pre in
+    let R = s .pre .0 in
     let l = c .before .loop in
     let E = l .inv (R .ns) (R .graphed) in
     entities-size (now (s .args .work)) _ _ (R .ns) _ _ (R .graphed) E

@@ -10,26 +10,26 @@ use Rattle.proof_writer.proofs.put_version_leaves.Statement.{statement}
 use Rattle.proof_writer.proofs.put_version_leaves.Tie as tie
 
 abbrev Inv-loop : tie.InvT-loop
-Inv-loop work₀ entry n count₀ i₀ work count i = (ns : List VersionNode) → Graphed work₀ n ns → VersionsStored work₀ work ns (node-at ns entry .entity) count i
+Inv-loop work₀ entry n constants count₀ i₀ work count i = (ns : List VersionNode) → Graphed work₀ n ns → VersionsStored work₀ work ns (node-at ns entry .entity) count i
 
 abbrev μ-loop : tie.MeasureT-loop
-μ-loop work₀ entry n count₀ i₀ work count i = 65535 - i
+μ-loop work₀ entry n constants count₀ i₀ work count i = 65535 - i
 
 loop-holds : tie.Need-loop-holds Inv-loop μ-loop
-loop-holds c = λ ns G. versions-stored-none _ _ ns _ G (c .before .pre .1) (c .before .pre .2)
+loop-holds c = λ ns G. versions-stored-none _ _ ns _ G (c .before .pre .0 .1) (c .before .pre .0 .2)
 
 leaf-of-requires : tie.Need-leaf-of-requires Inv-loop μ-loop
 leaf-of-requires c κs =
     let s = c .before .before .before .before in
-    let R = s .pre .0 in
+    let R = s .pre .0 .0 in
     let l = c .before .before .loop in
     let E = l .inv (R .ns) (R .graphed) in
-    versions-slot (now (s .args .work)) _ _ (R .ns) _ _ _ (R .graphed) E (c .before .loop-test .taken)
+    (versions-slot (now (s .args .work)) _ _ (R .ns) _ _ _ (R .graphed) E (c .before .loop-test .taken), s .pre .1)
 
 store-leaf-requires : tie.Need-store-leaf-requires Inv-loop μ-loop
 store-leaf-requires c κs =
     let s = c .before .before .before .before .before .before in
-    let R = s .pre .0 in
+    let R = s .pre .0 .0 in
     let l = c .before .before .before .before .loop in
     let E = l .inv (R .ns) (R .graphed) in
     versions-room (now (s .args .work)) _ _ (R .ns) _ _ _ (R .graphed) E (c .before .before .before .loop-test .taken)
@@ -37,7 +37,7 @@ store-leaf-requires c κs =
 add-count : tie.Need-add-count Inv-loop μ-loop
 add-count c =
     let s = c .before .before .before .before .before .before .before .before .before in
-    let R = s .pre .0 in
+    let R = s .pre .0 .0 in
     let l = c .before .before .before .before .before .before .before .loop in
     let E = l .inv (R .ns) (R .graphed) in
     let f = versions-room (now (s .args .work)) _ _ (R .ns) _ _ _ (R .graphed) E (c .before .before .before .before .before .before .loop-test .taken) in
@@ -46,7 +46,7 @@ add-count c =
 get-next-requires : tie.Need-get-next-requires Inv-loop μ-loop
 get-next-requires c κs =
     let s = c .before .before .before .before .before .before .before .before .before .before in
-    let R = s .pre .0 in
+    let R = s .pre .0 .0 in
     let l = c .before .before .before .before .before .before .before .before .loop in
     let E = l .inv (R .ns) (R .graphed) in
     let z = versions-slot (now (s .args .work)) _ _ (R .ns) _ _ _ (R .graphed) E (c .before .before .before .before .before .before .before .loop-test .taken) in
@@ -58,7 +58,7 @@ cast-i c = search needs
 loop-less : tie.Need-loop-less Inv-loop μ-loop
 loop-less c =
     let s = c .before .before .before .before .before .before .before .before .before .before .before in
-    let R = s .pre .0 in
+    let R = s .pre .0 .0 in
     let l = c .before .before .before .before .before .before .before .before .before .loop in
     let E = l .inv (R .ns) (R .graphed) in
     let g = versions-forward (now (s .args .work)) _ _ (R .ns) _ _ _ (R .graphed) E (c .before .before .before .before .before .before .before .before .loop-test .taken) _ (c .before .before .before .before .before .before .leaf-of .ensures) _ (c .before .before .before .before .store-leaf .ensures) _ (c .get-next .ensures) in
@@ -74,7 +74,7 @@ loop-again c =
 same-length : tie.Need-same-length Inv-loop μ-loop
 same-length c =
     let s = c .before .before .before in
-    let R = s .pre .0 in
+    let R = s .pre .0 .0 in
     let l = c .before .loop in
     let E = l .inv (R .ns) (R .graphed) in
     E .kept .size

@@ -8,22 +8,22 @@ use Rattle.proof_writer.proofs.put_walk.Tie as tie
 put-front-requires : tie.Need-put-front-requires
 put-front-requires c κs =
     let s = c .before .before .before .before in
-    (s .pre .1 .graph, s .pre .0, omega (arith, s .pre .1 .space))
+    ((s .pre .0 .1 .graph, s .pre .0 .0, omega (arith, s .pre .0 .1 .space)), s .pre .1)
 
 mul-put-entity : tie.Need-mul-put-entity
 mul-put-entity c =
-    let few = c .before .before .before .before .before .before .before .before .before .before .pre .0 .shallow in
+    let few = c .before .before .before .before .before .before .before .before .before .before .pre .0 .0 .shallow in
     search needs
 
 add-put-entity : tie.Need-add-put-entity
 add-put-entity c =
-    let few = c .before .before .before .before .before .before .before .before .before .before .pre .0 .shallow in
+    let few = c .before .before .before .before .before .before .before .before .before .before .pre .0 .0 .shallow in
     search needs
 
 put-entity-requires : tie.Need-put-entity-requires
 put-entity-requires c κs =
     let s = c .before .before .before .before .before .before .before .before .before .before in
-    fits-in _ _ _ _ _ _ _ _ (s .pre .1) (omega arith)
+    (fits-in _ _ _ _ _ _ _ _ (s .pre .0 .1) (omega arith), s .pre .1)
 
 same-length : tie.Need-same-length
 same-length c = search needs
@@ -35,7 +35,7 @@ returns : tie.Need-returns
 returns c =
     let s = c .before .before .before .before .before .before .before .before .before .before .before .before .before .before .before in
     let r = c .before .before .before .before .put-entity .ensures in
-    (walk-is _ (now (s .args .work)) _ (s .args .path) _ _ _ (now (s .args .out)) _ _ (s .pre .1 .space) (c .before .before .before .before .before .before .before .before .before .before .put-front .ensures) (r .0), r .1)
+    (walk-is _ (now (s .args .work)) _ (s .args .path) _ _ _ (now (s .args .out)) _ _ (s .pre .0 .1 .space) (c .before .before .before .before .before .before .before .before .before .before .put-front .ensures) (r .0), r .1)
 
 pub put-walk-spec : {M : Type 1} → statement M
 put-walk-spec =

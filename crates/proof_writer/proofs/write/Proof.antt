@@ -13,7 +13,7 @@ enum-known-plan c = search needs
 put-front-requires : tie.Need-put-front-requires
 put-front-requires c κs =
     let s = c .before .before .before .before .before .before .before in
-    no-entity-ready (now (s .args .work)) _ _ _ _ (c .before .before .before .plan .given .1) (s .pre .0) _ (s .pre .1)
+    (no-entity-ready (now (s .args .work)) _ _ _ _ (c .before .before .before .plan .given .1) (s .pre .0 .0) _ (s .pre .0 .1), s .pre .1)
 
 enum-known-plan-2 : tie.Need-enum-known-plan-2
 enum-known-plan-2 c = search needs
@@ -21,7 +21,7 @@ enum-known-plan-2 c = search needs
 put-walk-requires : tie.Need-put-walk-requires
 put-walk-requires c κs =
     let s = c .before .before .before .before .before .before .before in
-    not-yet-ready (now (s .args .work)) _ _ _ _ _ (c .before .before .before .plan2 .given .1) (s .pre .0) _ (s .pre .1)
+    (not-yet-ready (now (s .args .work)) _ _ _ _ _ (c .before .before .before .plan2 .given .1) (s .pre .0 .0) _ (s .pre .0 .1), s .pre .1)
 
 enum-known-plan-3 : tie.Need-enum-known-plan-3
 enum-known-plan-3 c = search needs
@@ -29,7 +29,7 @@ enum-known-plan-3 c = search needs
 put-found-requires : tie.Need-put-found-requires
 put-found-requires c κs =
     let s = c .before .before .before .before .before .before .before in
-    found-ready (now (s .args .work)) _ _ _ _ _ _ _ _ (c .before .before .before .plan3 .given .1) (s .pre .0) _ (s .pre .1)
+    (found-ready (now (s .args .work)) _ _ _ _ _ _ _ _ (c .before .before .before .plan3 .given .1) (s .pre .0 .0) _ (s .pre .0 .1), s .pre .1)
 
 same-length : tie.Need-same-length
 same-length c = search needs
