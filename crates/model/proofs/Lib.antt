@@ -36,6 +36,7 @@ pub mod CompletenessOverGraphs
 -- logs
 pub mod LogReading
 pub mod LogGraph
+pub mod FormerRows
 pub mod LogLaws
 pub mod Soundness
 pub mod Completeness

@@ -18,7 +18,7 @@ use Rattle.model.specs.Accumulator.{letter-L, letter-N, letter-G, letter
 use Rattle.model.specs.Question.{backward, forward, Part, version-only, trace-of, Question, question, SearchEnd, by-entity, by-time, open-tree, open-versions, open-entities, Opened, Verdict, count}
 use Rattle.model.specs.Trace.{letter-E, letter-V, letter-S, letter-T, letter-D, refers, referred, add-ancestors, ancestors, starts-in, add-descendants, descendants, trace-versions, position-in, edges-inside, node-inside, induced-subgraph, trace, one-edge-string, record-string-by, record-string, record-strings, trace-string, letter-B, letter-F}
 use Rattle.model.specs.Answer.{proof, trace-part, answer, log-header, log-commitment, log-answer}
-use Rattle.model.specs.LogRows.{parse, above-all, latest-time, ends-rows, next-record, records-by, records-from, log-within, read-log}
+use Rattle.model.specs.LogRows.{parse, above-all, ends-rows, next-record, records-by, records-from, log-by, log-within, read-log}
 use Rattle.model.specs.CheckRows.{enough, Accepted, run-under, run, path-strings, trace-strings, hashed-in-check, check-proof, take-string, due, shown-edges, shown-record, all-below, read-record, CheckedTrace, last-shown, read-records, read-trace, referred-to, first-unreferenced, unreferenced, found-position, trace-rows, with-trace}
 use Rattle.model.specs.Calls.{records-part}
 use Rattle.model.specs.Listing.{decimal-within, decimal, line, birth-word, flow-word, from-word, refused-word, at-word, made-by, version-line, too-long, listed, listing}
@@ -37,7 +37,7 @@ use Rattle.model.proofs.Widths.{proof-width, letters-of, proof-length}
 -- ---- opens every definition that computes, and not H
 
 unfoldable pub computed : Unit {0}
-unfolding encode decode part field need _>>=_ last-time births latest-from latest made grow graph branch-string parent doubled-below largest-power-below halved tree subtree string-of leaf-string group-string root-string entities leaf-at version-leaves of-entity group entity-tree root question by-entity by-time open-tree open-versions open-entities refers referred add-ancestors ancestors starts-in add-descendants descendants trace-versions position-in edges-inside node-inside induced-subgraph trace one-edge-string record-string-by record-string record-strings trace-string proof trace-part log-header parse above-all latest-time ends-rows next-record records-by records-from log-within read-log enough reached
+unfolding encode decode part field need _>>=_ last-time births latest-from latest made grow graph branch-string parent doubled-below largest-power-below halved tree subtree string-of leaf-string group-string root-string entities leaf-at version-leaves of-entity group entity-tree root question by-entity by-time open-tree open-versions open-entities refers referred add-ancestors ancestors starts-in add-descendants descendants trace-versions position-in edges-inside node-inside induced-subgraph trace one-edge-string record-string-by record-string record-strings trace-string proof trace-part log-header parse above-all ends-rows next-record records-by log-by log-within read-log enough reached
 computed = tt
 
 -- ---- the logs
@@ -300,7 +300,7 @@ flow-to-itself = refl
 
 -- "A log that begins with a flow: 7 at 0", whatever the flow's operands and whatever follows it
 flow-first : (x : Bytes) → getD x 0 0 ≡ FLOW → 18 ≤ length x → read-log x ≡ refuse 7 0
-unfolding read-log log-within next-record parse ends-rows births last-time need _>>=_
+unfolding read-log log-within log-by records-from next-record parse ends-rows births last-time need _>>=_
 flow-first x c h =
     pass (leb 1 (length x)) 1 0 _ (le→leb 1 (length x) (omega arith))
     ∙ records-next record-limit [] 0 x (omega arith)

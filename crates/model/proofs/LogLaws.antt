@@ -6,7 +6,7 @@ use Prim.Native.Nat.{ℕ, _<_, _≤_}
 use mathlib.Core.List.{List, [], _∷_, List·Memᴰ·not-nil, List·Memᴰ·append-cases, List·Memᴰ·eq-of-singleton}
 use lib.ListN.{length}
 use Rattle.model.specs.Numbers.{Bytes}
-use Rattle.model.specs.Log.{Record, record-limit, births}
+use Rattle.model.specs.Log.{Record, record-limit, TimesRise, births}
 use Rattle.model.specs.Graph.{node-at, graph}
 use Rattle.model.specs.LogRows.{read-log}
 use Rattle.model.specs.WellFormed.{Rising}
@@ -37,7 +37,11 @@ module _ (log : Bytes) (rs : List Record) (s : SoundLog log rs) where
   pub births-rise : Rising (births rs)
   births-rise = up-rising (sound-facts log rs s .births-rise)
 
-  -- "Times rise strictly from record to record", and so they do from version to version
+  -- "Times rise strictly from record to record."
+  pub record-times-rise : TimesRise rs
+  record-times-rise = sound-facts log rs s .records-rise
+
+  -- and so they do from version to version
   pub times-rise : (i j : ℕ) → i < j → j < length (graph rs) → node-at (graph rs) i .time < node-at (graph rs) j .time
   times-rise = sound-facts log rs s .times-rise
 

@@ -48,6 +48,11 @@ unfolding _>>=_
 bind-same (ok a) f g h = h a refl
 bind-same (refuse n p) f g h = refl
 
+pub bind-itself : {A : Type 0} (m : Result A) → (m >>= ok) ≡ m
+unfolding _>>=_
+bind-itself (ok a) = refl
+bind-itself (refuse n p) = refl
+
 pub need-ok : (b : Bool) (n p : ℕ) {u : Unit {0}} → need b n p ≡ ok u → T b
 unfolding need
 need-ok true n p e = tt

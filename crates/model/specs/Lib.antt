@@ -1,4 +1,5 @@
--- Document 01 as definitions, in the order of its sections; `Result` and `Rows` come first, `WellFormed` and `Exact` (demand 3) last.
+-- Document 01 as definitions, in the order of its sections; `Result` and `Rows` come first, `WellFormed` and `Exact` (demand 3) last. Behind them
+-- `FormerRows`: what a request took out, kept for a theorem.
 pub mod Result
 pub mod Rows
 pub mod Numbers
@@ -15,3 +16,4 @@ pub mod Calls
 pub mod Listing
 pub mod WellFormed
 pub mod Exact
+pub mod FormerRows

@@ -158,6 +158,7 @@ side!(plain_rust, reference);
 mod tests {
     use super::*;
     use crate::heap::peak;
+    use crate::stack::used;
     use crate::table::subjects;
 
     /// Every row of the table, with few records.
@@ -196,6 +197,19 @@ mod tests {
         let mut lent = case.lent();
         assert_eq!(peak(|| { proved(&case, &mut lent); }), 0);
         assert!(peak(|| { plain_rust(&case, &mut lent); }) > 40);
+    }
+
+    /// On a log as short as those before, and on one that takes the longest list of births; a listing has at most 512 records.
+    #[test]
+    fn calls_on_a_log_take_at_most_300_000_bytes_of_stack() {
+        let on_a_log = |call| matches!(call, Call::Log | Call::Listing | Call::Commitment | Call::Answer);
+        let rows = subjects().into_iter().filter(|subject| on_a_log(subject.call));
+        for subject in rows.flat_map(|row| [40, 512, 12_000].map(|size| Subject { size, ..row })) {
+            let case = Case::new(&subject);
+            let mut lent = case.lent();
+            let bytes = used(&mut || { proved(&case, &mut lent); });
+            assert!(bytes <= 300_000, "{subject:?}: {bytes}");
+        }
     }
 
     #[test]

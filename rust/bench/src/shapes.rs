@@ -2,13 +2,13 @@
 
 use reference::host::Host;
 use reference::log::{read, write, Record};
-use reference::random::{self, Random};
+use reference::random::Random;
 use reference::sample::{in_turn, one_source};
 use reference::sha256::Digest;
 use reference::{Question, FORWARD};
 
-/// A sound log of that many records: a random mix, flows among a quarter as many entities, one source of every flow, or two entities
-/// that feed each other in turn.
+/// A sound log of that many records: births and flows at random, one birth in three, flows among a quarter as many entities, one source of
+/// every flow, or two entities that feed each other in turn.
 pub fn log(shape: &str, records: usize) -> Vec<u8> {
     let mut random = Random::new(records as u64);
     let birth = |n: usize| Record::Birth { entity: 3 * n as u32, time: n as u64 };
@@ -24,14 +24,26 @@ pub fn log(shape: &str, records: usize) -> Vec<u8> {
             };
             (0..records).map(|n| if n < born { birth(n) } else { flow(n, &mut random) }).collect()
         }
-        _ => loop {
-            let made = random::records_of_length(&mut random, records);
-            if made.len() == records {
-                break made;
-            }
-        },
+        _ => mixed(records, &mut random),
     };
     write(&made)
+}
+
+/// Births and flows at random; the share of births does not depend on the number of records.
+fn mixed(records: usize, random: &mut Random) -> Vec<Record> {
+    let mut born: Vec<u32> = Vec::new();
+    let mut record = |n: usize| {
+        let time = n as u64;
+        if born.len() < 2 || random.once_in(3) {
+            let entity = born.last().map_or(0, |last| last + 1) + random.below(8) as u32;
+            born.push(entity);
+            return Record::Birth { entity, time };
+        }
+        let source = random.index(born.len());
+        let destination = (source + 1 + random.index(born.len() - 1)) % born.len();
+        Record::Flow { source: born[source], destination: born[destination], kind: random.byte(), time }
+    };
+    (0..records).map(&mut record).collect()
 }
 
 /// A question about a log, with the log's commitment and the answer.

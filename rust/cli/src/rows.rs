@@ -2,38 +2,37 @@
 
 use viewer::Refusal;
 
-/// The cause of row 1, of row 2 and on.
-const CAUSES: [&str; 24] = [
-    "log empty",
-    "record 65,536 begins",
-    "command unknown",
-    "record cut short",
-    "time not above the record before",
-    "birth not above earlier births",
-    "flow's source unborn",
-    "destination unborn",
-    "source is destination",
-    "flow no later than an end's latest version",
-    "direction above 2",
-    "work area below 128 bytes a record",
-    "output too short for the result",
-    "commitment not 32 bytes",
-    "answer ends inside or before a string, trace header or record",
-    "letter not one due",
-    "H of a proof string not the digest due",
-    "bytes after the end",
-    "trace count 0 or above 65,535",
-    "position not below the record's own",
-    "time not above the record before",
-    "backward: record not last, referred to by none",
-    "found version's record differs from L",
-    "its path digest differs from L",
+/// Each row's number and cause. Number 10 is not used again (document 02, A10).
+const CAUSES: [(u64, &str); 23] = [
+    (1, "log empty"),
+    (2, "record 65,536 begins"),
+    (3, "command unknown"),
+    (4, "record cut short"),
+    (5, "time not above the record before"),
+    (6, "birth not above earlier births"),
+    (7, "flow's source unborn"),
+    (8, "destination unborn"),
+    (9, "source is destination"),
+    (11, "direction above 2"),
+    (12, "work area below 128 bytes a record"),
+    (13, "output too short for the result"),
+    (14, "commitment not 32 bytes"),
+    (15, "answer ends inside or before a string, trace header or record"),
+    (16, "letter not one due"),
+    (17, "H of a proof string not the digest due"),
+    (18, "bytes after the end"),
+    (19, "trace count 0 or above 65,535"),
+    (20, "position not below the record's own"),
+    (21, "time not above the record before"),
+    (22, "backward: record not last, referred to by none"),
+    (23, "found version's record differs from L"),
+    (24, "its path digest differs from L"),
 ];
 
 /// A refusal with its number, its position and the document's words.
 pub fn said(refusal: &Refusal) -> String {
-    let row = usize::try_from(refusal.number).ok().and_then(|number| number.checked_sub(1));
-    let cause = row.and_then(|row| CAUSES.get(row)).unwrap_or(&"no row of the table");
+    let row = CAUSES.iter().find(|(number, _)| *number == refusal.number);
+    let cause = row.map_or("no row of the table", |(_, cause)| cause);
     format!("refused {} at {}: {cause}", refusal.number, refusal.position)
 }
 
@@ -54,10 +53,11 @@ mod tests {
     #[test]
     fn every_row_has_the_words_of_the_document() {
         let table = table();
-        assert_eq!(table.len(), CAUSES.len());
+        assert_eq!(table.len(), CAUSES.len() + 1);
         for (place, (cause, number)) in table.into_iter().enumerate() {
             assert_eq!(number, place as u64 + 1);
-            assert_eq!(said(&Refusal { number, position: 7 }), format!("refused {number} at 7: {cause}"));
+            let words = if number == 10 { "no row of the table" } else { &cause };
+            assert_eq!(said(&Refusal { number, position: 7 }), format!("refused {number} at 7: {words}"));
         }
     }
 

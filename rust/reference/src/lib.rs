@@ -95,7 +95,7 @@ pub fn hash(message: &[u8], out: &mut [u8]) -> Outcome {
     outcome(write(&sha256::sha256(message), out))
 }
 
-/// The number of records of a sound log. Rows 1 to 10.
+/// The number of records of a sound log. Rows 1 to 9.
 pub fn log(bytes: &[u8]) -> Written {
     written(log::read(bytes).map(|records| records.len()))
 }

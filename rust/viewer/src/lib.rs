@@ -69,7 +69,7 @@ pub fn hash(message: &[u8], out: &mut [u8]) -> Result<(), Refusal> {
     accepted(plain::hash(message, out))
 }
 
-/// The number of records of a sound log; else the row of 1 to 10 that it meets.
+/// The number of records of a sound log; else the row of 1 to 9 that it meets.
 pub fn log(log: &[u8]) -> Result<u64, Refusal> {
     counted(plain::log(log))
 }
@@ -80,14 +80,14 @@ pub fn listing(input: &[u8], out: &mut [u8]) -> Result<u64, Refusal> {
     counted(plain::listing(input, out))
 }
 
-/// Writes a log's commitment to the first 32 bytes of `out`; else the row of 1 to 10, 12 or 13 that the call meets, and `out` stays as it
+/// Writes a log's commitment to the first 32 bytes of `out`; else the row of 1 to 9, 12 or 13 that the call meets, and `out` stays as it
 /// was. The work area takes 128 bytes a record (`work_area`), and is all zero afterwards.
 pub fn commitment(log: &[u8], work: &mut [u8], out: &mut [u8]) -> Result<(), Refusal> {
     accepted(plain::commitment(log, work, out))
 }
 
-/// Writes the answer to a question about a log to the first bytes of `out`, and gives its length; else the row of 1 to 13 that the call
-/// meets, and `out` stays as it was. The work area is as for `commitment`. An answer has at most 3,211 bytes and 22 a record.
+/// Writes the answer to a question about a log to the first bytes of `out`, and gives its length; else the row of 1 to 9 or 11 to 13 that the
+/// call meets, and `out` stays as it was. The work area is as for `commitment`. An answer has at most 3,211 bytes and 22 a record.
 pub fn answer(question: &Question, log: &[u8], work: &mut [u8], out: &mut [u8]) -> Result<u64, Refusal> {
     counted(plain::answer(question.direction.number(), question.entity, question.time, log, work, out))
 }

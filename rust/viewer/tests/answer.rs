@@ -96,7 +96,7 @@ fn order_of_the_rows() {
         met[number as usize] += 1;
     }
     for (number, times) in met.iter().enumerate() {
-        // row 2 takes 65,535 records, and row 10 is never met
+        // row 2 takes 65,535 records, and no row has the number 10
         assert_eq!(*times > 100, number != 2 && number != 10, "row {number}: {times} times");
     }
 }

@@ -70,6 +70,27 @@ fn random_and_damaged_logs() {
     }
 }
 
+/// The list of births has one of four lengths, by the bytes of the log. Births up to each of them, and then a record that takes the last place,
+/// asks for the first and the last born, or is at fault.
+#[test]
+fn every_length_of_the_list_of_births() {
+    for length in [128, 1_024, 8_192, 65_535] {
+        for born in length - 2..=length + 1 {
+            let log = births(born.min(65_534));
+            let (count, last, time) = (log.len() as u64, log.len() as u32 - 1, log.len() as u64);
+            let then = |record: Record| read(&write(&[&log[..], &[record]].concat()));
+            assert_eq!(read(&write(&log)), Ok(count));
+            for sound in [birth(last + 1, time), flow(0, last, 7, time), flow(last, 0, 7, time)] {
+                assert_eq!(then(sound), Ok(count + 1));
+            }
+            assert_eq!(then(flow(0, last, 7, time - 1)), refused(5, 13 * count));
+            assert_eq!(then(birth(last, time)), refused(6, 13 * count));
+            assert_eq!(then(flow(last + 1, 0, 7, time)), refused(7, 13 * count));
+            assert_eq!(then(flow(0, last + 1, 7, time)), refused(8, 13 * count));
+        }
+    }
+}
+
 #[test]
 fn the_most_records() {
     let mut random = Random::new(22);
