@@ -158,7 +158,7 @@ side!(plain_rust, reference);
 mod tests {
     use super::*;
     use crate::heap::peak;
-    use crate::stack::used;
+    use crate::stack::{used, written};
     use crate::table::subjects;
 
     /// Every row of the table, with few records.
@@ -199,16 +199,31 @@ mod tests {
         assert!(peak(|| { plain_rust(&case, &mut lent); }) > 40);
     }
 
-    /// On a log as short as those before, and on one that takes the longest list of births; a listing has at most 512 records.
-    #[test]
-    fn calls_on_a_log_take_at_most_300_000_bytes_of_stack() {
+    /// The calls on a log, on logs that take lists of births of every length; a listing has at most 512 records.
+    fn on_a_log() -> Vec<Case> {
         let on_a_log = |call| matches!(call, Call::Log | Call::Listing | Call::Commitment | Call::Answer);
         let rows = subjects().into_iter().filter(|subject| on_a_log(subject.call));
-        for subject in rows.flat_map(|row| [40, 512, 12_000].map(|size| Subject { size, ..row })) {
-            let case = Case::new(&subject);
+        rows.flat_map(|row| [40, 512, 1_024, 12_000].map(|size| Case::new(&Subject { size, ..row }))).collect()
+    }
+
+    #[test]
+    fn calls_on_a_log_take_at_most_300_000_bytes_of_stack() {
+        for case in on_a_log() {
             let mut lent = case.lent();
             let bytes = used(&mut || { proved(&case, &mut lent); });
-            assert!(bytes <= 300_000, "{subject:?}: {bytes}");
+            assert!(bytes <= 300_000, "{:?} of {} bytes: {bytes}", case.call, case.input.len());
+        }
+    }
+
+    /// A call clears no longer a list of births than the log's bytes can need: at most 2.5 bytes for each of them. Beside it stand the frames
+    /// and a word a page; a listing has its text and its table.
+    #[test]
+    fn a_short_log_writes_little_of_the_stack() {
+        for case in on_a_log() {
+            let mut lent = case.lent();
+            let bytes = written(&mut || { proved(&case, &mut lent); });
+            let most = 16_000 + case.input.len() * 5 / 2 + if case.call == Call::Listing { 131_072 } else { 0 };
+            assert!(bytes <= most, "{:?} of {} bytes: {bytes}", case.call, case.input.len());
         }
     }
 

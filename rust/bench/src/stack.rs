@@ -28,17 +28,26 @@ fn run_on(stack: &mut [u128], mut call: &mut dyn FnMut()) {
     }
 }
 
-fn depth(call: &mut dyn FnMut()) -> usize {
+/// The stack as a call leaves it.
+fn after(call: &mut dyn FnMut()) -> Vec<u128> {
     let mut stack = vec![PAINT; WORDS];
     run_on(&mut stack, call);
-    let painted = stack.iter().take_while(|word| **word == PAINT).count();
-    assert!(painted > 0, "the call needs more stack");
-    16 * (WORDS - painted)
+    assert!(stack[0] == PAINT, "the call needs more stack");
+    stack
+}
+
+fn depth(call: &mut dyn FnMut()) -> usize {
+    16 * (WORDS - after(call).iter().take_while(|word| **word == PAINT).count())
 }
 
 /// The bytes of stack below the caller's frame, to 16.
 pub fn used(call: &mut dyn FnMut()) -> usize {
     depth(call) - depth(&mut || ())
+}
+
+/// The bytes of stack that a call wrote to, to 16 each.
+pub fn written(call: &mut dyn FnMut()) -> usize {
+    16 * after(call).iter().filter(|word| **word != PAINT).count()
 }
 
 #[cfg(test)]
@@ -74,6 +83,12 @@ mod tests {
         assert!(of(hole) >= 100_000);
         assert!((10_000..30_000).contains(&small), "{small}");
         assert!((1_000_000..2_100_000).contains(&large), "{large}");
+    }
+
+    #[test]
+    fn a_hole_is_not_written_to() {
+        assert!(written(&mut || hole()) < 10_000);
+        assert!(written(&mut || { array::<1_000_000>(); }) >= 1_000_000);
     }
 
     #[test]
