@@ -203,7 +203,7 @@ mod tests {
     fn on_a_log() -> Vec<Case> {
         let on_a_log = |call| matches!(call, Call::Log | Call::Listing | Call::Commitment | Call::Answer);
         let rows = subjects().into_iter().filter(|subject| on_a_log(subject.call));
-        rows.flat_map(|row| [40, 512, 1_024, 12_000].map(|size| Case::new(&Subject { size, ..row }))).collect()
+        rows.flat_map(|row| [40, 300, 1_024, 4_096, 20_000].map(|size| Case::new(&Subject { size, ..row }))).collect()
     }
 
     #[test]
@@ -215,14 +215,14 @@ mod tests {
         }
     }
 
-    /// A call clears no longer a list of births than the log's bytes can need: at most 2.5 bytes for each of them. Beside it stand the frames
-    /// and a word a page; a listing has its text and its table.
+    /// A call clears a list of births that the log's bytes can need: at most 1.25 bytes for each of them. Beside it stand the frames and a word a
+    /// page; a listing has its text and its table.
     #[test]
     fn a_short_log_writes_little_of_the_stack() {
         for case in on_a_log() {
             let mut lent = case.lent();
             let bytes = written(&mut || { proved(&case, &mut lent); });
-            let most = 16_000 + case.input.len() * 5 / 2 + if case.call == Call::Listing { 131_072 } else { 0 };
+            let most = 12_000 + case.input.len() * 5 / 4 + if case.call == Call::Listing { 131_072 } else { 0 };
             assert!(bytes <= most, "{:?} of {} bytes: {bytes}", case.call, case.input.len());
         }
     }

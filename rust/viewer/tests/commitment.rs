@@ -52,11 +52,11 @@ fn every_shape_of_tree() {
     }
 }
 
-/// The list of births has one of four lengths, by the bytes of the log: births up to each of them, and flows between the first and the last.
+/// The list of births has one of six lengths, by the bytes of the log: births up to each of them, and flows between the first and the last.
 #[test]
 fn every_length_of_the_list_of_births() {
     let mut random = Random::new(37);
-    for length in [128, 1_024, 8_192] {
+    for length in [64, 256, 1_024, 4_096, 16_384] {
         for born in length - 1..=length + 1 {
             let (last, time) = (born as u32 - 1, born as u64);
             let flows = [flow(0, last, 1, time), flow(last, 0, 2, time + 1), flow(last / 2, last, 3, time + 2)];

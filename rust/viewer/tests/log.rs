@@ -70,11 +70,11 @@ fn random_and_damaged_logs() {
     }
 }
 
-/// The list of births has one of four lengths, by the bytes of the log. Births up to each of them, and then a record that takes the last place,
+/// The list of births has one of six lengths, by the bytes of the log. Births up to each of them, and then a record that takes the last place,
 /// asks for the first and the last born, or is at fault.
 #[test]
 fn every_length_of_the_list_of_births() {
-    for length in [128, 1_024, 8_192, 65_535] {
+    for length in [64, 256, 1_024, 4_096, 16_384, 65_535] {
         for born in length - 2..=length + 1 {
             let log = births(born.min(65_534));
             let (count, last, time) = (log.len() as u64, log.len() as u32 - 1, log.len() as u64);
