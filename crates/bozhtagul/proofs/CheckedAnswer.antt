@@ -4,16 +4,18 @@ use Prim.Native.Nat.{ℕ, _*_, _≤_}
 use native.Mathlib.Omega.{arith}
 use lib.Dec.{le→leb}
 use lib.ListN.{length}
-use Rattle.fields.specs.Fields.{Octets}
+use Rattle.fields.specs.Fields.{Octets, part}
 use Rattle.model.specs.Numbers.{Bytes}
 use Rattle.model.specs.Result.{Result, ok, refuse, _>>=_}
 use Rattle.model.specs.Graph.{graph}
 use Rattle.model.specs.Question.{Verdict, count}
 use Rattle.model.specs.Answer.{log-answer}
 use Rattle.model.specs.CheckRows.{enough, Accepted, run}
-use Rattle.model.specs.Calls.{verdict-of, check-call}
+use Rattle.model.specs.Calls.{verdict-of, check-call, records-part, records-call}
 use Rattle.model.specs.Exact.{true-verdict}
 use Rattle.model.proofs.Outcomes.{bind-eq, need-yes}
+use Rattle.model.proofs.LogGraph.{well-formed}
+use Rattle.model.proofs.Verdicts.{true-verdict-holds}
 use Rattle.model.proofs.Soundness.{soundness}
 use Rattle.model.proofs.CheckCall.{check-complete}
 use Rattle.model.proofs.RowNumbers.{number-above, run-numbered}
@@ -49,6 +51,17 @@ unfolding boundsOf bounds
 bounds-agree m b e = ap (λ (c : Bounds). record { start = c .start; length = c .length }) e ∙ go m
   where
     go : (m : Result Accepted) → _≡_ {A = Part} (record { start = boundsOf m .start; length = boundsOf m .length }) (bounds m)
+    go (ok a) = refl
+    go (refuse n p) = refl
+
+-- the part that the bounds tell is the records call's
+pub part-agrees : (direction s t : ℕ) (commitment x work : Bytes) (r : Part) → r ≡ bounds (run direction s t commitment x (length work))
+    → part x (r .start) (r .length) ≡ records-call direction s t commitment x work .result
+unfolding records-call bounds records-part part
+part-agrees direction s t commitment x work r e =
+    ap (λ (p : Part). part x (p .start) (p .length)) e ∙ go (run direction s t commitment x (length work))
+  where
+    go : (m : Result Accepted) → part x (bounds m .start) (bounds m .length) ≡ records-part x m
     go (ok a) = refl
     go (refuse n p) = refl
 
@@ -89,7 +102,11 @@ module _ (direction s t : ℕ) (commitment x work : Bytes) (r : Checked) (e : r 
           absurd (let z : ⊥ = omega arith in z)
 
   pub complete-of : Complete direction s t commitment x work r
-  complete-of a is room = e ∙ ap checked (defined-accepted direction s t commitment x work a is room)
+  complete-of a is room =
+      record {
+        by-paths = true-verdict-holds (graph (a .records)) (well-formed (a .log) (a .records) (a .sound)) (a .q);
+        returned = e ∙ ap checked (defined-accepted direction s t commitment x work a is room);
+      }
 
 accepts : Checking → Type 0
 accepts NoEntity = Unit {0}

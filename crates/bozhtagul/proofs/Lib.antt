@@ -5,3 +5,4 @@ mod ListingText
 mod Committed
 mod GivenAnswer
 mod CheckedAnswer
+mod Anchors

@@ -7,11 +7,11 @@ use lib.ListN.{length}
 use Rattle.model.specs.Numbers.{Bytes}
 use Rattle.model.specs.Result.{ok}
 use Rattle.model.specs.Log.{Record}
-use Rattle.model.specs.Graph.{graph}
+use Rattle.model.specs.Graph.{VersionNode, graph}
 use Rattle.model.specs.Question.{Question, question, count}
-use Rattle.model.specs.Answer.{log-header, log-commitment, log-answer, log-hashed}
-use Rattle.model.specs.CheckRows.{work-width, Accepted, run, hashed-in-check}
-use Rattle.model.specs.Exact.{true-verdict, Collision, Faithful, SoundLog}
+use Rattle.model.specs.Answer.{log-header, log-commitment, log-answer}
+use Rattle.model.specs.CheckRows.{work-width, Accepted, run}
+use Rattle.model.specs.Exact.{TrueVerdict, true-verdict, Escape, Faithful, SoundLog}
 use Rattle.bozhtagul.specs.declared.Checked.{Checked}
 use Rattle.bozhtagul.specs.Results.{checked}
 
@@ -33,16 +33,21 @@ pub record Exact (direction s t : ℕ) (commitment x : Bytes) (size : ℕ) (a : 
   pub ran : run direction s t commitment x size ≡ ok run-of
   pub returned : r ≡ checked (ok (run-of .verdict))
   pub demand-3 : Faithful (log-header (a .records)) (graph (a .records)) (a .q) x run-of
-      ⊎ Collision (log-hashed (a .records)) (hashed-in-check (a .q .part) run-of)
+      ⊎ Escape (log-header (a .records)) (graph (a .records)) (a .q .part) run-of
 
 -- first half: whatever the bytes handed in and the work area, number 0 means that
 abbrev pub Sound : (direction s t : ℕ) (commitment x work : Bytes) → Checked → Type 0
 Sound direction s t commitment x work r =
     (a : Asked direction s t commitment) → r .number ≡ 0 → Exact direction s t commitment x (length work) a r
 
+-- accepted with the true verdict, which is said by paths, and as the function
+pub record Accepts (ns : List VersionNode) (q : Question) (r : Checked) : Type 0 where
+  pub by-paths : TrueVerdict ns q (true-verdict ns q)
+  pub returned : r ≡ checked (ok (true-verdict ns q))
+
 -- second half: "the defined answer, checked against the log's commitment with enough work area, is accepted with the true verdict"
 abbrev pub Complete : (direction s t : ℕ) (commitment x work : Bytes) → Checked → Type 0
 Complete direction s t commitment x work r =
     (a : Asked direction s t commitment) → x ≡ log-answer (a .records) (a .q)
     → work-width * count (true-verdict (graph (a .records)) (a .q)) ≤ length work
-    → r ≡ checked (ok (true-verdict (graph (a .records)) (a .q)))
+    → Accepts (graph (a .records)) (a .q) r

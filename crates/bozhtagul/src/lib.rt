@@ -8,7 +8,9 @@ use log::Reading;
 use log::TimeKey;
 use sha256::Hashing;
 ghost use mathlib.Core.Path.{_≡_};
+ghost use Prim.Native.Nat.{_+_, _≤_};
 ghost use lib.ListN.{length};
+ghost use Rattle.fields.specs.Fields.{part};
 ghost use Rattle.model.specs.CheckRows.{run};
 ghost use Rattle.model.specs.Calls.{hash-call, log-call, listing-call, commitment-call, answer-call, check-call, records-call};
 ghost use Rattle.bozhtagul.specs.Results.{outcome, written, checked, bounds};
@@ -182,6 +184,8 @@ pub extern "C" fn bozhtagul_records(
     work: &mut [u8],
 ) -> Part
     ensures result { λ r. ⌜ r ≡ bounds (run direction entity time (now (commitment .entry)) (now (answer .entry)) (length (now (work .entry)))) ⌝ }
+    ensures inside { λ r. ⌜ r .start + r .length ≤ length (now (answer .entry)) ⌝ }
+    ensures records { λ r. ⌜ part (now (answer .entry)) (r .start) (r .length) ≡ records-call direction entity time (now (commitment .entry)) (now (answer .entry)) (now (work .entry)) .result ⌝ }
     ensures cleared { λ _. ⌜ now (work .exit) ≡ records-call direction entity time (now (commitment .entry)) (now (answer .entry)) (now (work .entry)) .work ⌝ }
 {
     let s = EntityKey(entity as u64);

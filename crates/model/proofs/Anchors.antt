@@ -1,47 +1,55 @@
 -- What the two halves of demand 3 rule out: these break where a statement is weakened. Assumes nothing.
 use mathlib.Core.Path.{_≡_, refl, sym, ap, _∙_, subst}
 use mathlib.Core.Logic.{_≢_, _⊎_, inl, inr}
-use Prim.Native.Nat.{ℕ}
+use Prim.Native.Nat.{ℕ, zero, suc, _<_}
 use native.Mathlib.Omega.{arith}
-use mathlib.Core.List.{List, [], _∷_, List·Memᴰ·not-nil}
+use mathlib.Core.List.{List, [], _∷_, List·Memᴰ·not-nil, List·Memᴰ·head, List·Memᴰ·tail}
 use lib.ListN.{length}
+use lib.Dec.{lit<}
 use Rattle.fields.specs.Fields.{Octets}
 use Rattle.model.specs.Result.{ok, refuse, _>>=_}
 use Rattle.model.specs.Numbers.{Bytes, H}
 use Rattle.model.specs.Log.{Record}
-use Rattle.model.specs.Graph.{graph}
+use Rattle.model.specs.Graph.{InEdge, temporal, dependency, node-at, graph, NamedEdge, CausalPath, stay, step, edges-on}
 use Rattle.model.specs.Digest.{letter-I, letter-O, links-string, incoming-string, outgoing-string, incoming-strings, outgoing-strings, incoming-string-of, outgoing-string-of}
 use Rattle.model.specs.Accumulator.{letter-L, letter-N, letter-G, letter-P, letter-R, strings-of, hashed-in-building}
 use Rattle.model.specs.Question.{backward, trace-of, Question, question, Verdict, count}
 use Rattle.model.specs.Answer.{log-header, log-commitment, log-answer, log-hashed}
 use Rattle.model.specs.CheckRows.{enough, Accepted, run, path-strings, trace-strings, hashed-in-check}
 use Rattle.model.specs.Calls.{verdict-of}
-use Rattle.model.specs.Exact.{sought-from, any-version, verdict-at, true-verdict, Collision, Faithful, Check, SoundLog, Soundness, Completeness}
+use Rattle.model.specs.Exact.{path-edges, ending, IsSought, sought-from, any-version, verdict-at, true-verdict, ShowsVersion, ShowsEdge, VersionOnPath, EdgeOnPath, Shows, Collision, Escape, strings, Faithful, Check, SoundLog, Soundness, Completeness}
 use Rattle.model.proofs.Outcomes.{refuse≢ok, ok-inj}
-use Rattle.model.proofs.Lists.{_among_}
+use Rattle.model.proofs.Lists.{_among_, among-two}
 use Rattle.model.proofs.Walk.{asked}
 use Rattle.model.proofs.Widths.{letters-of}
+use Rattle.model.proofs.LogGraph.{well-formed}
+use Rattle.model.proofs.Verdicts.{true-verdict-only}
+use Rattle.model.proofs.Truth.{found-is}
+use Rattle.model.proofs.Showing.{version-on, trace-shows}
 use Rattle.model.proofs.HashedCount.{log-building-count}
 use Rattle.model.proofs.Soundness.{soundness}
 use Rattle.model.proofs.Completeness.{completeness}
-use Rattle.model.proofs.LogK.{computed, log-bytes, K, K-sound, starred-cases}
+use Rattle.model.proofs.LogK.{computed, log-bytes, K, K-sound, backward-2-35-records, starred-cases}
 
 -- ---- a collision is a real collision
 
 pub collision-real : {built checked : List Bytes} → Collision built checked → (x : Bytes) × (y : Bytes) × (x ≢ y) × (H x ≡ H y)
 collision-real c = (c .x, c .y, c .differ, c .one-hash)
 
--- where no two different strings of the two lists share a hash, an accepted answer is the defined one
-pub no-collision : (log : Bytes) (rs : List Record) → SoundLog log rs → (direction s t : ℕ) (q : Question) → question direction s t ≡ ok q → (x : Bytes) → Octets x → (work : ℕ) (a : Accepted)
-    → run direction s t (log-commitment rs) x work ≡ ok a
-    → ((y z : Bytes) → y among log-hashed rs → z among hashed-in-check (q .part) a → H y ≡ H z → y ≡ z)
-    → x ≡ log-answer rs q
-unfolding log-answer
-no-collision log rs l direction s t q e x o work a r one = go (soundness log rs l direction s t q e x o work a r)
+-- no two different strings of the two lists share a hash
+abbrev pub NoCollision : List Bytes → List Bytes → Type 0
+NoCollision built checked = (y z : Bytes) → y among built → z among checked → H y ≡ H z → y ≡ z
+
+-- where that is so, an accepted answer is faithful
+pub no-collision : {log : Bytes} {rs : List Record} → SoundLog log rs → (direction s t : ℕ) (q : Question) → question direction s t ≡ ok q
+    → (x : Bytes) → Octets x → (work : ℕ) (a : Accepted) → run direction s t (log-commitment rs) x work ≡ ok a
+    → NoCollision (log-hashed rs) (hashed-in-check (q .part) a) → Faithful (log-header rs) (graph rs) q x a
+unfolding log-hashed
+no-collision {log} {rs} l direction s t q e x o work a r one = go (soundness log rs l direction s t q e x o work a r)
   where
-    go : Faithful (log-header rs) (graph rs) q x a ⊎ Collision (log-hashed rs) (hashed-in-check (q .part) a) → x ≡ log-answer rs q
-    go (inl f) = f .the-answer
-    go (inr c) = absurd (c .differ (one (c .x) (c .y) (c .x-built) (c .y-checked) (c .one-hash)))
+    go : Faithful (log-header rs) (graph rs) q x a ⊎ Escape (log-header rs) (graph rs) (q .part) a → Faithful (log-header rs) (graph rs) q x a
+    go (inl f) = f
+    go (inr (strings c)) = absurd (c .differ (one (c .x) (c .y) (c .x-built) (c .y-checked) (c .one-hash)))
 
 -- ---- the strings hashed, on K
 
@@ -62,12 +70,107 @@ K-hashed-letters = refl
 -- ---- both halves at K
 
 pub soundness-at-K : (direction s t : ℕ) (q : Question) → question direction s t ≡ ok q → (x : Bytes) → Octets x → (work : ℕ) (a : Accepted) → run direction s t (log-commitment K) x work ≡ ok a
-    → Faithful (log-header K) (graph K) q x a ⊎ Collision (log-hashed K) (hashed-in-check (q .part) a)
+    → Faithful (log-header K) (graph K) q x a ⊎ Escape (log-header K) (graph K) (q .part) a
 soundness-at-K = soundness (log-bytes K) K K-sound
 
 pub completeness-at-K : (direction s t : ℕ) (q : Question) → question direction s t ≡ ok q → (work : ℕ)
     → verdict-of (run direction s t (log-commitment K) (log-answer K q) work) ≡ (enough (count (true-verdict (graph K) q)) work >>= λ _. ok (true-verdict (graph K) q))
 completeness-at-K = completeness (log-bytes K) K K-sound
+
+-- ---- each part of `Faithful`, at K's first question
+
+abbrev first-question : Question
+first-question = asked (trace-of backward) 2 35
+
+-- the version sought is the third, 2 at 30
+first-sought : IsSought (graph K) first-question 2
+unfolding computed
+first-sought = found-is (graph K) (well-formed (log-bytes K) K K-sound) (trace-of backward) 2 35 _ refl .1
+
+-- and its records show what is on its paths
+first-trace : Shows (graph K) 2 (trace-of backward) backward-2-35-records
+unfolding computed
+first-trace = trace-shows (graph K) (well-formed (log-bytes K) K K-sound .starts-before) backward 2 (lit< tt)
+
+first-verdict : true-verdict (graph K) first-question ≡ Verdict.found 30 3
+unfolding computed sought-from any-version verdict-at true-verdict
+first-verdict = refl
+
+-- a flow's edge by kind and by the names of its two ends
+abbrev pub flow-edge : ℕ → ℕ → ℕ → ℕ → ℕ → NamedEdge
+flow-edge k e t f u = record { type = 1; kind = k; start-entity = e; start-time = t; end-entity = f; end-time = u }
+
+-- from 1 at 10 to 2 at 30, by the flow of kind 7
+first-path : CausalPath (graph K) 0 2
+unfolding computed
+first-path =
+    step (record { edge = dependency 7 0; start-there = lit< tt; end-there = lit< tt; listed = List·Memᴰ·tail (List·Memᴰ·head refl); starts = refl })
+    (stay (lit< tt))
+
+first-version : VersionOnPath (graph K) 2 (trace-of backward) 1 10
+unfolding computed
+first-version = version-on (graph K) 2 backward 0 1 10 first-path refl refl
+
+first-edge : EdgeOnPath (graph K) 2 (trace-of backward) (flow-edge 7 1 10 2 30)
+unfolding computed path-edges edges-on first-path
+first-edge = record { path = ending first-path; on = List·Memᴰ·head refl }
+
+-- nothing on a path that ends there has the time 40
+module _ (n : ℕ) (late : n ≡ 40) where
+  shown-by : (i : ℕ) → i < 3 → node-at backward-2-35-records i .time ≡ n → ⊥
+  shown-by zero h q = omega arith
+  shown-by (suc zero) h q = omega arith
+  shown-by (suc (suc zero)) h q = omega arith
+  shown-by (suc (suc (suc i))) h q = omega arith
+
+  no-version-at-40 : (e : ℕ) → VersionOnPath (graph K) 2 (trace-of backward) e n → ⊥
+  unfolding computed
+  no-version-at-40 e p = let s = first-trace .versions e n .1 p in shown-by (s .i) (s .inside) (s .is-time)
+
+  starts-in-trace : (j : ℕ) → j < 3 → (e : InEdge) → e among node-at backward-2-35-records j .in-edges → e .start < 3
+  starts-in-trace zero h e m = absurd (List·Memᴰ·not-nil m)
+  starts-in-trace (suc zero) h e m = absurd (List·Memᴰ·not-nil m)
+  starts-in-trace (suc (suc zero)) h e m = among-two (λ (e : InEdge). e .start < 3) (temporal 1) (dependency 7 0) (lit< tt) (lit< tt) e m
+  starts-in-trace (suc (suc (suc j))) h e m = absurd (let z : ⊥ = omega arith in z)
+
+  no-edge-from-40 : (l : NamedEdge) → l .start-time ≡ n → EdgeOnPath (graph K) 2 (trace-of backward) l → ⊥
+  unfolding computed
+  no-edge-from-40 l q p =
+      let s = first-trace .edges l .1 p in
+      shown-by (s .edge .start) (starts-in-trace (s .j) (s .inside) (s .edge) (s .listed)) (ap (λ (m : NamedEdge). m .start-time) (s .is-it) ∙ q)
+
+-- what an accepted answer to it is and shows, where no strings collide
+module _ (x : Bytes) (o : Octets x) (work : ℕ) (a : Accepted) (accepted : run 1 2 35 (log-commitment K) x work ≡ ok a)
+    (none : NoCollision (log-hashed K) (hashed-in-check (trace-of backward) a))
+  where
+    the-faithful : Faithful (log-header K) (graph K) first-question x a
+    unfolding question
+    the-faithful = no-collision K-sound 1 2 35 first-question refl x o work a accepted none
+
+    shown : Shows (graph K) 2 (trace-of backward) (a .records)
+    shown = the-faithful .the-trace 2 first-sought
+
+    pub answer-at-K : x ≡ log-answer K first-question
+    unfolding log-answer
+    answer-at-K = the-faithful .the-answer
+
+    pub verdict-at-K : a .verdict ≡ Verdict.found 30 3
+    verdict-at-K = the-faithful .the-verdict ∙ first-verdict
+
+    pub verdict-by-paths-at-K : a .verdict ≡ Verdict.found 30 3
+    verdict-by-paths-at-K = true-verdict-only (graph K) (well-formed (log-bytes K) K K-sound) first-question (a .verdict) (the-faithful .by-paths) ∙ first-verdict
+
+    pub version-shown-at-K : ShowsVersion (a .records) 1 10
+    version-shown-at-K = shown .versions 1 10 .1 first-version
+
+    pub version-not-shown-at-K : ShowsVersion (a .records) 1 40 → ⊥
+    version-not-shown-at-K s = no-version-at-40 40 refl 1 (shown .versions 1 40 .0 s)
+
+    pub edge-shown-at-K : ShowsEdge (a .records) (flow-edge 7 1 10 2 30)
+    edge-shown-at-K = shown .edges (flow-edge 7 1 10 2 30) .1 first-edge
+
+    pub edge-not-shown-at-K : (l : NamedEdge) → l .start-entity ≡ 1 → l .start-time ≡ 40 → ShowsEdge (a .records) l → ⊥
+    edge-not-shown-at-K l of-1 at-40 s = no-edge-from-40 40 refl l at-40 (shown .edges l .0 s)
 
 -- ---- idle checks
 
@@ -80,14 +183,14 @@ unfolding computed accept-all hashed-in-check trace-strings path-strings incomin
 accept-all-unsound v sound = go (sound (log-bytes K) K K-sound 1 2 35 (asked (trace-of backward) 2 35) refl [] Octets.none 0 _ refl)
   where
     go : Faithful (log-header K) (graph K) (asked (trace-of backward) 2 35) [] (record { verdict = v; opened = []; records = []; records-start = 0; records-length = 0 })
-        ⊎ Collision (log-hashed K) [] → ⊥
+        ⊎ Escape (log-header K) (graph K) (trace-of backward) (record { verdict = v; opened = []; records = []; records-start = 0; records-length = 0 }) → ⊥
     go (inl f) =
         let c = starred-cases .one in
         nothing (ap length (f .the-answer)) (subst (λ (z : Question). length (log-answer K z) ≡ 446) (ok-inj (sym (c .known))) (c .the-length))
       where
         nothing : {m : ℕ} → 0 ≡ m → m ≡ 446 → ⊥
         nothing e n = omega arith
-    go (inr c) = List·Memᴰ·not-nil (c .y-checked)
+    go (inr (strings c)) = List·Memᴰ·not-nil (c .y-checked)
 
 -- refuses whatever it is given
 pub refuse-all : ℕ → ℕ → Check

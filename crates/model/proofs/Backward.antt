@@ -1,4 +1,4 @@
--- The backward trace: accepted records are the subgraph on the versions that reach the found one, or two strings collision. Assumes nothing.
+-- The backward trace: accepted records are the subgraph on the versions that reach the found one, or two strings collide. Assumes nothing.
 use mathlib.Core.Path.{_≡_, refl, sym, ap, ap₂, _∙_, subst}
 use mathlib.Core.Logic.{_⊎_, inl, inr}
 use Prim.Native.Nat.{ℕ, zero, suc, _+_, _-_, _<_, _≤_}

@@ -1,4 +1,4 @@
--- The forward trace: accepted records are the subgraph on the versions that the found one reaches, or two strings collision. Assumes nothing.
+-- The forward trace: accepted records are the subgraph on the versions that the found one reaches, or two strings collide. Assumes nothing.
 use mathlib.Core.Path.{_≡_, refl, sym, ap, _∙_, subst}
 use mathlib.Core.Logic.{_⊎_, inl, inr}
 use Prim.Native.Nat.{ℕ, zero, suc, _-_, _<_, _≤_}

@@ -2,29 +2,29 @@
 use mathlib.Core.Path.{_≡_, refl, sym, ap, _∙_, subst}
 use Prim.Native.Nat.{ℕ, zero, suc, _+_, _-_, _≤_}
 use native.Mathlib.Omega.{arith}
-use mathlib.Core.Bool.{cond}
+use mathlib.Core.Bool.{Bool, true, cond}
 use mathlib.Core.Option.{none}
 use mathlib.Core.List.{List, [], _∷_, _++_, map}
-use lib.ListN.{length, getD, length-append, set, take, drop}
+use lib.ListN.{length, getD, length-append, set, take, drop, replicate}
 use lib.Dec.{eqb, leb, le→leb}
 use Rattle.fields.specs.Fields.{Octets, encode, decode, part, field, equal}
 use Rattle.fields.proofs.Numbers.{octets-encode, octets-append}
 use Rattle.model.specs.Result.{Result, ok, refuse, _>>=_, need}
-use Rattle.model.specs.Numbers.{Bytes, joined}
+use Rattle.model.specs.Numbers.{Bytes, H, joined}
 use Rattle.model.specs.Log.{Record, birth, flow, BIRTH, FLOW, record-limit, last-time, births}
 use Rattle.model.specs.Graph.{InEdge, temporal, dependency, VersionNode, latest-from, latest, made, grow, graph}
 use Rattle.model.specs.Digest.{letter-I, letter-O, links-string, incoming-string, outgoing-string, incoming-string-of, outgoing-string-of, incoming-strings, outgoing-strings}
-use Rattle.model.specs.Accumulator.{letter-L, letter-N, letter-G, letter-P, letter-R, branch-string, parent, doubled-below, largest-power-below, halved, tree, subtree, string-of, leaf-string, VersionLeaf, group-string, root-string, entities, leaf-at, version-leaves, of-entity, group, entity-tree, root}
+use Rattle.model.specs.Accumulator.{letter-L, letter-N, letter-G, letter-P, letter-R, branch-string, parent, doubled-below, largest-power-below, halved, tree, subtree, string-of, leaf-string, VersionLeaf, group-string, root-string, entities, leaf-at, version-leaves, of-entity, group, entity-tree, root, commitment}
 use Rattle.model.specs.Question.{backward, forward, Part, version-only, trace-of, Question, question, SearchEnd, by-entity, by-time, open-tree, open-versions, open-entities, Opened, Verdict, count}
 use Rattle.model.specs.Trace.{letter-E, letter-V, letter-S, letter-T, letter-D, refers, referred, add-ancestors, ancestors, starts-in, add-descendants, descendants, trace-versions, position-in, edges-inside, node-inside, induced-subgraph, trace, one-edge-string, record-string-by, record-string, record-strings, trace-string, letter-B, letter-F}
 use Rattle.model.specs.Answer.{proof, trace-part, answer, log-header, log-commitment, log-answer}
 use Rattle.model.specs.LogRows.{parse, above-all, ends-rows, next-record, records-by, records-from, log-by, log-within, read-log}
 use Rattle.model.specs.CheckRows.{enough, Accepted, run-under, run, path-strings, trace-strings, hashed-in-check, check-proof, take-string, due, shown-edges, shown-record, all-below, read-record, CheckedTrace, last-shown, read-records, read-trace, referred-to, first-unreferenced, unreferenced, found-position, trace-rows, with-trace}
-use Rattle.model.specs.Calls.{records-part}
-use Rattle.model.specs.Listing.{decimal-within, decimal, line, birth-word, flow-word, from-word, refused-word, at-word, made-by, version-line, too-long, listed, listing}
+use Rattle.model.specs.Calls.{Written, output-after, fitting, writing, hash-call, commitment-bytes, commitment-call, answer-bytes, answer-call, listing-call, records-part, records-call}
+use Rattle.model.specs.Listing.{decimal-within, decimal, line, birth-word, flow-word, from-word, refused-word, at-word, made-by, version-line, too-long, listed, listing-within, listing}
 use Rattle.model.specs.Exact.{reached, SoundLog}
 use Rattle.model.proofs.Outcomes.{ok-inj, refuse≢ok, bind-eq, bind-refused, pass}
-use Rattle.model.proofs.Strings.{sum}
+use Rattle.model.proofs.Strings.{sum, H-length}
 use Rattle.model.proofs.Walk.{asked}
 use Rattle.model.proofs.Truth.{verdict-by}
 use Rattle.model.proofs.LogReading.{records-next}
@@ -178,7 +178,7 @@ abbrev found-letters : List ℕ
 found-letters = letter-R ∷ letter-P ∷ letter-G ∷ letter-N ∷ letter-L ∷ []
 
 -- "2, 35, backward: E 1 10; E 2 20; V 2 30 kind 7, 1, 0. 446 bytes."
-abbrev backward-2-35-records : List VersionNode
+abbrev pub backward-2-35-records : List VersionNode
 backward-2-35-records = node 1 10 [] ∷ node 2 20 [] ∷ node 2 30 (temporal 1 ∷ dependency 7 0 ∷ []) ∷ []
 
 abbrev backward-2-35-bytes : List Bytes
@@ -346,6 +346,9 @@ starred-cases =
 
 pub rows-of-the-log :
     (read-log [] ≡ refuse 1 0)
+    × ((x : Bytes) → read-log x ≡ log-within 65535 x)
+    × (log-within 4 (log-bytes K) ≡ ok K)
+    × (log-within 3 (log-bytes K) ≡ refuse 2 44)
     × (log-within 1 (log-bytes (birth 1 10 ∷ []) ++ (0 ∷ [])) ≡ refuse 2 13)
     × (read-log (0 ∷ []) ≡ refuse 3 0)
     × (read-log (BIRTH ∷ []) ≡ refuse 4 0)
@@ -355,12 +358,26 @@ pub rows-of-the-log :
     × (read-log (log-bytes (birth 1 10 ∷ flow 2 2 7 20 ∷ [])) ≡ refuse 7 13)
     × (read-log (log-bytes (birth 1 10 ∷ flow 1 2 7 20 ∷ [])) ≡ refuse 8 13)
 unfolding computed
-rows-of-the-log = (refl, refl, refl, refl, refl, refl, refl, refl, refl)
+rows-of-the-log = (refl, (λ x. refl), refl, refl, refl, refl, refl, refl, refl, refl, refl, refl)
 
 -- ---- rows of the check that no hash comes before, on K's first question: the trace at byte 393 of its answer
 
 abbrev first-trace : Bytes
 first-trace = letter-B ∷ joined (encode 4 3 ∷ backward-2-35-bytes)
+
+-- the same with another count
+abbrev counting-records : ℕ → Bytes
+counting-records n = letter-B ∷ joined (encode 4 n ∷ backward-2-35-bytes)
+
+-- three records, none of which refers to another: the lowest is named
+abbrev idle-trace : Bytes
+idle-trace =
+    letter-B ∷ joined
+    (encode 4 3
+    ∷ (letter-E ∷ []) ∷ encode 4 1 ∷ encode 8 10
+    ∷ (letter-E ∷ []) ∷ encode 4 2 ∷ encode 8 20
+    ∷ (letter-E ∷ []) ∷ encode 4 2 ∷ encode 8 30
+    ∷ [])
 
 -- the trace's bytes read, and judged against a leaf 2 30
 abbrev read-first : Bytes → ℕ → Result CheckedTrace
@@ -380,18 +397,24 @@ pub rows-of-the-check :
     × (read-first [] 384 ≡ refuse 15 393)
     × (read-first (set first-trace 0 letter-F) 384 ≡ refuse 16 393)
     × (read-first (take 4 first-trace) 384 ≡ refuse 15 393)
-    × (read-first (set first-trace 4 0) 384 ≡ refuse 19 393)
+    × (read-first (set first-trace 4 0) 0 ≡ refuse 19 393)
+    × (read-first (counting-records 65536) 0 ≡ refuse 19 393)
+    × (read-first (counting-records 65535) 384 ≡ refuse 12 0)
     × (read-first first-trace 383 ≡ refuse 12 0)
     × (read-first (set first-trace 5 letter-S) 384 ≡ refuse 16 398)
     × (read-first (set first-trace 5 letter-V) 384 ≡ refuse 20 398)
     × (read-first (take 52 first-trace) 384 ≡ refuse 15 424)
     × (read-first (set first-trace 48 2) 384 ≡ refuse 20 424)
+    × (read-first (set first-trace 43 20) 384 ≡ refuse 21 424)
+    × (read-first (set (set first-trace 48 2) 43 20) 384 ≡ refuse 20 424)
     × (read-first (set first-trace 30 10) 384 ≡ refuse 21 411)
     × (judge-first (first-trace ++ (0 ∷ [])) ≡ refuse 18 446)
     × (judge-first (set first-trace 52 1) ≡ refuse 22 398)
+    × (judge-first idle-trace ≡ refuse 22 398)
     × (judge-first (set first-trace 43 31) ≡ refuse 23 424)
 unfolding computed run run-under check-proof take-string equal due shown-edges shown-record all-below read-record last-shown read-records read-trace referred-to first-unreferenced unreferenced found-position trace-rows with-trace
-rows-of-the-check = (refl, refl, refl, refl, refl, refl, refl, refl, refl, refl, refl, refl, refl, refl, refl, refl, refl, refl)
+rows-of-the-check =
+    (refl, refl, refl, refl, refl, refl, refl, refl, refl, refl, refl, refl, refl, refl, refl, refl, refl, refl, refl, refl, refl, refl, refl)
 
 -- what the listing program prints for K
 pub K-listing : listing (log-bytes K)
@@ -401,10 +424,88 @@ pub K-listing : listing (log-bytes K)
     ∷ line ((50 ∷ []) ∷ (51 ∷ 48 ∷ []) ∷ flow-word ∷ (55 ∷ []) ∷ from-word ∷ (49 ∷ []) ∷ (49 ∷ 48 ∷ []) ∷ [])
     ∷ line ((49 ∷ []) ∷ (52 ∷ 48 ∷ []) ∷ flow-word ∷ (56 ∷ []) ∷ from-word ∷ (50 ∷ []) ∷ (51 ∷ 48 ∷ []) ∷ [])
     ∷ [])
-unfolding computed listing listed too-long version-line made-by line decimal decimal-within
+unfolding computed listing listing-within listed too-long version-line made-by line decimal decimal-within
 K-listing = refl
 
--- and for a log that is turned away
-pub refused-listing : listing (log-bytes (K ++ (flow 1 1 7 50 ∷ []))) ≡ line (refused-word ∷ (57 ∷ []) ∷ at-word ∷ (54 ∷ 50 ∷ []) ∷ [])
-unfolding computed listing listed too-long version-line made-by line decimal decimal-within
-refused-listing = refl
+-- its limits, and those of other logs: the last record and byte that are let in, the first that are not; a row that is met before that
+-- record is printed, one that is met at it is not
+pub listing-limits :
+    ((x : Bytes) → listing x ≡ listing-within 9216 512 x)
+    × (listing-within 62 4 (log-bytes K) ≡ listing (log-bytes K))
+    × (listing-within 61 4 (log-bytes K) ≡ too-long)
+    × (listing-within 62 3 (log-bytes K) ≡ too-long)
+    × (listing (log-bytes (K ++ (flow 1 1 7 50 ∷ []))) ≡ line (refused-word ∷ (57 ∷ []) ∷ at-word ∷ (54 ∷ 50 ∷ []) ∷ []))
+    × (listing-within 9216 5 (log-bytes (K ++ (flow 1 1 7 50 ∷ []))) ≡ line (refused-word ∷ (57 ∷ []) ∷ at-word ∷ (54 ∷ 50 ∷ []) ∷ []))
+    × (listing-within 9216 4 (log-bytes (K ++ (flow 1 1 7 50 ∷ []))) ≡ too-long)
+    × (listing [] ≡ line (refused-word ∷ (49 ∷ []) ∷ at-word ∷ (48 ∷ []) ∷ []))
+unfolding computed listing listing-within listed too-long version-line made-by line decimal decimal-within
+listing-limits = ((λ x. refl), refl, refl, refl, refl, refl, refl, refl)
+
+-- ---- rows of the calls, and what is left where one is met
+
+abbrev zeros : ℕ → Bytes
+zeros n = replicate n 0
+
+-- 13, by the number of bytes to write
+fitting-by : (out y : Bytes) (n : ℕ) → length y ≡ n → fitting out y ≡ (need (leb n (length out)) 13 0 >>= λ _. ok y)
+unfolding fitting
+fitting-by out y n e = ap (λ (k : ℕ). need (leb k (length out)) 13 0 >>= λ _. ok y) e
+
+module _ (message out : Bytes) where
+  hash-by : hash-call message out ≡ writing (λ _. tt) (need (leb 32 (length out)) 13 0 >>= λ _. ok (H message)) out []
+  unfolding hash-call
+  hash-by = ap (λ (r : Result Bytes). writing (λ _. tt) r out []) (fitting-by out (H message) 32 (H-length message))
+
+module _ (out work : Bytes) (enough-work : leb 512 (length work) ≡ true) where
+  commitment-by : commitment-call (log-bytes K) out work ≡ writing (λ _. tt) (need (leb 32 (length out)) 13 0 >>= λ _. ok (log-commitment K)) out work
+  unfolding computed commitment-call commitment-bytes log-commitment commitment
+  commitment-by =
+      ap (λ (b : Bool). writing (λ _. tt) (need b 12 0 >>= λ _. fitting out (log-commitment K)) out work) enough-work
+      ∙ ap (λ (r : Result Bytes). writing (λ _. tt) r out work) (fitting-by out (log-commitment K) 32 (H-length _))
+
+  answer-by : (q : Question) → question 1 2 35 ≡ ok q → length (log-answer K q) ≡ 446
+      → answer-call 1 2 35 (log-bytes K) out work ≡ writing length (need (leb 446 (length out)) 13 0 >>= λ _. ok (log-answer K q)) out work
+  unfolding computed answer-call answer-bytes
+  answer-by q known long =
+      ap (λ (b : Bool). writing length (need b 12 0 >>= λ _. fitting out (log-answer K (asked (trace-of backward) 2 35))) out work) enough-work
+      ∙ ap (λ (z : Question). writing length (fitting out (log-answer K z)) out work) (ok-inj known)
+      ∙ ap (λ (r : Result Bytes). writing length r out work) (fitting-by out (log-answer K q) 446 long)
+
+-- "Answer: 11, log, 12, 13", "Commitment: log, 12, 13"; an empty part where the check refuses
+pub rows-of-the-calls :
+    ((m : Bytes) → hash-call m (zeros 31) .result ≡ refuse 13 0)
+    × ((m : Bytes) → hash-call m (zeros 32) .result ≡ ok tt)
+    × (commitment-call [] [] [] .result ≡ refuse 1 0)
+    × (commitment-call (log-bytes K) (zeros 31) (zeros 511) .result ≡ refuse 12 0)
+    × (commitment-call (log-bytes K) (zeros 31) (zeros 512) .result ≡ refuse 13 0)
+    × (commitment-call (log-bytes K) (zeros 31) (zeros 512) .output ≡ zeros 31)
+    × (commitment-call (log-bytes K) (zeros 32) (zeros 512) .result ≡ ok tt)
+    × (answer-call 3 2 35 [] [] [] .result ≡ refuse 11 0)
+    × (answer-call 1 2 35 [] [] [] .result ≡ refuse 1 0)
+    × (answer-call 1 2 35 (log-bytes K) (zeros 445) (zeros 511) .result ≡ refuse 12 0)
+    × (answer-call 1 2 35 (log-bytes K) (zeros 445) (zeros 512) .result ≡ refuse 13 0)
+    × (answer-call 1 2 35 (log-bytes K) (zeros 446) (zeros 512) .result ≡ ok 446)
+    × (listing-call (log-bytes K) (zeros 65) .result ≡ refuse 13 0)
+    × (listing-call (log-bytes K) (zeros 66) .result ≡ ok 66)
+    × (records-call 3 2 35 [] [] [] .result ≡ [])
+    × (records-call 1 2 35 (log-commitment K) (log-answer K (starred-cases .one .q)) (zeros 383) .result ≡ [])
+unfolding computed hash-call commitment-call commitment-bytes answer-call answer-bytes listing-call records-call records-part writing fitting output-after run listing listing-within listed too-long version-line made-by line decimal decimal-within
+rows-of-the-calls =
+    let c = starred-cases .one in (
+      (λ m. ap (λ (w : Written (Unit {0})). w .result) (hash-by m (zeros 31))),
+      (λ m. ap (λ (w : Written (Unit {0})). w .result) (hash-by m (zeros 32))),
+      refl,
+      refl,
+      ap (λ (w : Written (Unit {0})). w .result) (commitment-by (zeros 31) (zeros 512) refl),
+      ap (λ (w : Written (Unit {0})). w .output) (commitment-by (zeros 31) (zeros 512) refl),
+      ap (λ (w : Written (Unit {0})). w .result) (commitment-by (zeros 32) (zeros 512) refl),
+      refl,
+      refl,
+      refl,
+      ap (λ (w : Written ℕ). w .result) (answer-by (zeros 445) (zeros 512) refl (c .q) (c .known) (c .the-length)),
+      ap (λ (w : Written ℕ). w .result) (answer-by (zeros 446) (zeros 512) refl (c .q) (c .known) (c .the-length)) ∙ ap ok (c .the-length),
+      refl,
+      refl,
+      refl,
+      ap (records-part (log-answer K (c .q))) (c .too-little),
+    )

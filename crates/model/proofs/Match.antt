@@ -1,5 +1,5 @@
 -- A list of records T against the true versions G: a record and a version with the same name and path digest have the same links, or two
--- strings collision. Assumes nothing.
+-- strings collide. Assumes nothing.
 use mathlib.Core.Path.{_≡_, sym, ap, _∙_, subst}
 use mathlib.Core.Logic.{_⊎_, inl, inr}
 use Prim.Native.Nat.{ℕ, _^_, _<_}
@@ -116,7 +116,7 @@ pub record Entry (way : Way) (T G : List VersionNode) (P : ℕ → Type 0) (i j 
   pub links : links-of way T i ≡ links-of way G j
 
 module _ (way : Way) (T G : List VersionNode) (rT : Regular T) (rG : Regular G) where
-  -- matching records have the same links, or two strings collision
+  -- matching records have the same links, or two strings collide
   pub same-links : {B C : List Bytes} (i j : ℕ) → path-string way G j among B → path-string way T i among C → Matches way T G i j
       → (links-of way T i ≡ links-of way G j) ⊎ Collision B C
   same-links {B} {C} i j mb mc m =

@@ -1,5 +1,5 @@
 -- Demand 3, first half, over well-formed graphs: an accepted answer is the defined one with the true verdict and the true trace, or two
--- strings collision. Assumes nothing.
+-- strings collide. Assumes nothing.
 use mathlib.Core.Path.{_≡_, refl, sym, ap, _∙_, subst}
 use mathlib.Core.Logic.{_⊎_, inl, inr}
 use Prim.Native.Nat.{ℕ, _+_, _-_}
@@ -18,7 +18,7 @@ use Rattle.model.specs.Trace.{trace, trace-string}
 use Rattle.model.specs.Answer.{proof, trace-part, answer}
 use Rattle.model.specs.CheckRows.{CheckedProof, check-proof, CheckedTrace, Accepted, end-here, with-trace, check-end, run-under, path-strings, trace-strings, hashed-in-check}
 use Rattle.model.specs.WellFormed.{WellFormed}
-use Rattle.model.specs.Exact.{IsSought, is-found, reached, true-verdict, Shows, Collision, Faithful, SoundnessOverGraphs}
+use Rattle.model.specs.Exact.{IsSought, TrueVerdict, is-found, reached, true-verdict, Shows, Collision, Escape, strings, Faithful, SoundnessOverGraphs}
 use Rattle.model.proofs.Outcomes.{ok-inj, bind-ok, past}
 use Rattle.model.proofs.Strings.{empty, octets-right}
 use Rattle.model.proofs.Lists.{_among_}
@@ -56,6 +56,17 @@ sought-found : (G : List VersionNode) → WellFormed G → (p : Part) (s t v : �
 sought-found G w p s t v a =
     verdict-unique G (regular G w) p s t _ _ (true-verdict-true G (regular G w) p s t) (is-found v (reached p G v) a (reached-exact G (regular G w) p v (a .there)))
 
+-- the verdict that is the true one as a function is so by paths
+faithful : (h : Header) (G : List VersionNode) (w : WellFormed G) (p : Part) (s t : ℕ) (x : Bytes) (a : Accepted) → x ≡ answer h G (asked p s t)
+    → a .verdict ≡ true-verdict G (asked p s t) → ((v : ℕ) → IsSought G (asked p s t) v → Shows G v p (a .records)) → Faithful h G (asked p s t) x a
+faithful h G w p s t x a is v shown =
+    record {
+      the-answer = is;
+      by-paths = subst (TrueVerdict G (asked p s t)) (sym v) (true-verdict-true G (regular G w) p s t);
+      the-verdict = v;
+      the-trace = shown;
+    }
+
 module _ (h : Header) (G : List VersionNode) (w : WellFormed G) (p : Part) (s t : ℕ) (x : Bytes) (ox : Octets x) (work : ℕ) (a : Accepted) where
   abbrev Done : Type 0
   Done = Faithful h G (asked p s t) x a ⊎ Collision (hashed-in-building h G) (hashed-in-check p a)
@@ -79,11 +90,10 @@ module _ (h : Header) (G : List VersionNode) (w : WellFormed G) (p : Part) (s t 
           let nil = empty (r .rest) (eqb→eq (length (r .rest)) 0 (k .0)) in
           let accepted = ok-inj (k .1) in
           inl
-          (record {
-            the-answer = the-split ∙ ap (λ (l : Bytes). joined (proof h G (asked p s t) .opened) ++ l) (nil ∙ sym pt ∙ ap (trace-part G p) (sym pe));
-            the-verdict = ap (λ (z : Accepted). z .verdict) (sym accepted) ∙ sym pu ∙ ap (verdict-by G p) (sym pe) ∙ walk-verdict G w p s t;
-            the-trace = λ v b. subst (Shows G v p) (ap (λ (z : Accepted). z .records) accepted) (shown v b);
-          })
+          (faithful h G w p s t x a
+          (the-split ∙ ap (λ (l : Bytes). joined (proof h G (asked p s t) .opened) ++ l) (nil ∙ sym pt ∙ ap (trace-part G p) (sym pe)))
+          (ap (λ (z : Accepted). z .verdict) (sym accepted) ∙ sym pu ∙ ap (verdict-by G p) (sym pe) ∙ walk-verdict G w p s t)
+          (λ v b. subst (Shows G v p) (ap (λ (z : Accepted). z .records) accepted) (shown v b)))
 
       -- a verdict without a version leaves nothing to show
       none-sought : (u : Verdict) → verdict-by G p end ≡ u → ((m n : ℕ) → u ≡ Verdict.found m n → ⊥) → (v : ℕ) → IsSought G (asked p s t) v → Shows G v p []
@@ -139,21 +149,18 @@ traced h G w way s t x ox work a r er A u pe q =
     finish tr accepted b sp nl (inr c) = inr c
     finish tr accepted b sp nl (inl k) =
         inl
-        (record {
-          the-answer =
-              split
-              ∙ ap (λ (l : Bytes). joined (proof h G (asked (trace-of way) s t) .opened) ++ l)
-              (sp ∙ ap (λ (l : Bytes). trace-string way (tr .records) ++ l) (empty (tr .rest) nl) ∙ append-nil (trace-string way (tr .records))
-              ∙ ap (trace-string way) k ∙ ap (trace-part G (trace-of way)) (sym pe));
-          the-verdict =
-              ap (λ (z : Accepted). z .verdict) (sym accepted)
-              ∙ ap (λ (n : ℕ). Verdict.found (u .leaf .time) n) (ap length k ∙ trace-count way G (u .place))
-              ∙ ap (verdict-by G (trace-of way)) (sym pe)
-              ∙ walk-verdict G w (trace-of way) s t;
-          the-trace = λ v c.
-              subst (λ (z : ℕ). Shows G z (trace-of way) (a .records)) (sought-unique G (regular G w) (trace-of way) s t (u .place) v b c)
-              (subst (Shows G (u .place) (trace-of way)) (sym k ∙ ap (λ (z : Accepted). z .records) accepted) (trace-shows G (w .starts-before) way (u .place) (b .there)));
-        })
+        (faithful h G w (trace-of way) s t x a
+        (split
+        ∙ ap (λ (l : Bytes). joined (proof h G (asked (trace-of way) s t) .opened) ++ l)
+        (sp ∙ ap (λ (l : Bytes). trace-string way (tr .records) ++ l) (empty (tr .rest) nl) ∙ append-nil (trace-string way (tr .records))
+        ∙ ap (trace-string way) k ∙ ap (trace-part G (trace-of way)) (sym pe)))
+        (ap (λ (z : Accepted). z .verdict) (sym accepted)
+        ∙ ap (λ (n : ℕ). Verdict.found (u .leaf .time) n) (ap length k ∙ trace-count way G (u .place))
+        ∙ ap (verdict-by G (trace-of way)) (sym pe)
+        ∙ walk-verdict G w (trace-of way) s t)
+        (λ v c.
+        subst (λ (z : ℕ). Shows G z (trace-of way) (a .records)) (sought-unique G (regular G w) (trace-of way) s t (u .place) v b c)
+        (subst (Shows G (u .place) (trace-of way)) (sym k ∙ ap (λ (z : Accepted). z .records) accepted) (trace-shows G (w .starts-before) way (u .place) (b .there)))))
 
 -- by the end of the walk
 by-end : (h : Header) (G : List VersionNode) (w : WellFormed G) (p : Part) (s t : ℕ) (x : Bytes) → Octets x → (work : ℕ) (a : Accepted) (r : CheckedProof)
@@ -190,6 +197,10 @@ sound-asked h G w p s t x ox work a q =
 pub soundness-over-graphs : SoundnessOverGraphs run-under
 soundness-over-graphs h G w q x ox work a e = go (q .relation) (q .part) (q .entity) (q .time) e
   where
+    escape : {F : Type 0} (p : Part) → F ⊎ Collision (hashed-in-building h G) (hashed-in-check p a) → F ⊎ Escape h G p a
+    escape p (inl f) = inl f
+    escape p (inr c) = inr (strings c)
+
     go : (r : Relation) (p : Part) (s t : ℕ) → run-under (h .letter) (record { relation = r; part = p; entity = s; time = t }) (commitment h G) x work ≡ ok a
-        → Faithful h G (record { relation = r; part = p; entity = s; time = t }) x a ⊎ Collision (hashed-in-building h G) (hashed-in-check p a)
-    go at-or-before p s t e = sound-asked h G w p s t x ox work a e
+        → Faithful h G (record { relation = r; part = p; entity = s; time = t }) x a ⊎ Escape h G p a
+    go at-or-before p s t e = escape p (sound-asked h G w p s t x ox work a e)

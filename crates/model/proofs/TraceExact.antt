@@ -1,4 +1,4 @@
--- An accepted trace is the defined one, or two strings collision. Assumes nothing.
+-- An accepted trace is the defined one, or two strings collide. Assumes nothing.
 use mathlib.Core.Path.{_≡_, refl, ap, _∙_}
 use mathlib.Core.Logic.{_⊎_, inl, inr}
 use Prim.Native.Nat.{ℕ, suc, _+_, _-_, _<_}

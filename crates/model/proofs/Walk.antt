@@ -253,7 +253,7 @@ module _ {A : Type 0} (l : Layout A) (d : Descent) (e : SearchEnd VersionLeaf) (
   unfolding open-tree
   opened-branch s t h = cond-F (d .stops (subtree l (branch s t))) _ _ h
 
--- ---- the check's walk in a tree is the defined one, or two strings collision: by induction on the tree
+-- ---- the check's walk in a tree is the defined one, or two strings collide: by induction on the tree
 
 -- what follows a leaf's string is sound
 abbrev pub Follows : {A : Type 0} → Layout A → (A → Opened) → (Bytes → ℕ → ℕ → Bytes → Result CheckedProof) → List Bytes → A → Type 0

@@ -10,7 +10,8 @@ use Rattle.bozhtagul.proofs.CheckedAnswer.{verdict-numbers, check-agree
 use Rattle.bozhtagul.proofs.bozhtagul_check.Statement.{statement}
 use Rattle.bozhtagul.proofs.bozhtagul_check.Tie as tie
 
--- a clause of the contract, of what the call returns
+-- A clause of the contract, of what the call returns. Where a verdict is given, what fails first without it is completeness; where a
+-- row is, soundness.
 abbrev Half : (ℕ → ℕ → ℕ → Bytes → Bytes → Bytes → Checked → Type 0) → tie.Start → Checked → Type 0
 Half P c r = P (c .args .direction) (c .args .entity) (c .args .time) (now (c .args .commitment)) (now (c .args .answer)) (now (c .args .work)) r
 
@@ -44,13 +45,13 @@ row-or-verdict-requires-4 c κs = search needs
 same-length : tie.Need-same-length
 same-length c = search needs
 
-sound-no-entity : (c : tie.After-row-or-verdict) → Half Sound (c .before .before .before .before .before .before .before .before .before .before) (c .row-or-verdict .result)
-unfolding verdict-numbers
-sound-no-entity c = sound-of _ _ _ (now (c .before .before .before .before .before .before .before .before .before .before .args .commitment)) (now (c .before .before .before .before .before .before .before .before .before .before .args .answer)) (now (c .before .before .before .before .before .before .before .before .before .before .args .work)) _ (c .row-or-verdict .ensures ∙ check-agrees _ _ _ (c .before .before .before .before .before .check .ensures .0) (c .before .enum-told .given .1)) (octets (now (c .before .before .before .before .before .before .before .before .before .before .args .answer)) (λ j. c .before .before .before .before .before .before .before .before .shared-slice-known2 .given j .fits))
-
 complete-no-entity : (c : tie.After-row-or-verdict) → Half Complete (c .before .before .before .before .before .before .before .before .before .before) (c .row-or-verdict .result)
 unfolding verdict-numbers
 complete-no-entity c = complete-of _ _ _ (now (c .before .before .before .before .before .before .before .before .before .before .args .commitment)) (now (c .before .before .before .before .before .before .before .before .before .before .args .answer)) (now (c .before .before .before .before .before .before .before .before .before .before .args .work)) _ (c .row-or-verdict .ensures ∙ check-agrees _ _ _ (c .before .before .before .before .before .check .ensures .0) (c .before .enum-told .given .1))
+
+sound-no-entity : (c : tie.After-row-or-verdict) → Half Sound (c .before .before .before .before .before .before .before .before .before .before) (c .row-or-verdict .result)
+unfolding verdict-numbers
+sound-no-entity c = sound-of _ _ _ (now (c .before .before .before .before .before .before .before .before .before .before .args .commitment)) (now (c .before .before .before .before .before .before .before .before .before .before .args .answer)) (now (c .before .before .before .before .before .before .before .before .before .before .args .work)) _ (c .row-or-verdict .ensures ∙ check-agrees _ _ _ (c .before .before .before .before .before .check .ensures .0) (c .before .enum-told .given .1)) (octets (now (c .before .before .before .before .before .before .before .before .before .before .args .answer)) (λ j. c .before .before .before .before .before .before .before .before .shared-slice-known2 .given j .fits))
 
 returns : tie.Need-returns
 unfolding verdict-numbers
@@ -59,13 +60,13 @@ returns c = (sound-no-entity c, (complete-no-entity c, (c .row-or-verdict .ensur
 same-length-2 : tie.Need-same-length-2
 same-length-2 c = search needs
 
-sound-not-yet : (c : tie.After-row-or-verdict2) → Half Sound (c .before .before .before .before .before .before .before .before .before .before) (c .row-or-verdict2 .result)
-unfolding verdict-numbers
-sound-not-yet c = sound-of _ _ _ (now (c .before .before .before .before .before .before .before .before .before .before .args .commitment)) (now (c .before .before .before .before .before .before .before .before .before .before .args .answer)) (now (c .before .before .before .before .before .before .before .before .before .before .args .work)) _ (c .row-or-verdict2 .ensures ∙ check-agrees _ _ _ (c .before .before .before .before .before .check .ensures .0) (c .before .enum-told2 .given .1)) (octets (now (c .before .before .before .before .before .before .before .before .before .before .args .answer)) (λ j. c .before .before .before .before .before .before .before .before .shared-slice-known2 .given j .fits))
-
 complete-not-yet : (c : tie.After-row-or-verdict2) → Half Complete (c .before .before .before .before .before .before .before .before .before .before) (c .row-or-verdict2 .result)
 unfolding verdict-numbers
 complete-not-yet c = complete-of _ _ _ (now (c .before .before .before .before .before .before .before .before .before .before .args .commitment)) (now (c .before .before .before .before .before .before .before .before .before .before .args .answer)) (now (c .before .before .before .before .before .before .before .before .before .before .args .work)) _ (c .row-or-verdict2 .ensures ∙ check-agrees _ _ _ (c .before .before .before .before .before .check .ensures .0) (c .before .enum-told2 .given .1))
+
+sound-not-yet : (c : tie.After-row-or-verdict2) → Half Sound (c .before .before .before .before .before .before .before .before .before .before) (c .row-or-verdict2 .result)
+unfolding verdict-numbers
+sound-not-yet c = sound-of _ _ _ (now (c .before .before .before .before .before .before .before .before .before .before .args .commitment)) (now (c .before .before .before .before .before .before .before .before .before .before .args .answer)) (now (c .before .before .before .before .before .before .before .before .before .before .args .work)) _ (c .row-or-verdict2 .ensures ∙ check-agrees _ _ _ (c .before .before .before .before .before .check .ensures .0) (c .before .enum-told2 .given .1)) (octets (now (c .before .before .before .before .before .before .before .before .before .before .args .answer)) (λ j. c .before .before .before .before .before .before .before .before .shared-slice-known2 .given j .fits))
 
 returns-2 : tie.Need-returns-2
 unfolding verdict-numbers
@@ -74,13 +75,13 @@ returns-2 c = (sound-not-yet c, (complete-not-yet c, (c .row-or-verdict2 .ensure
 same-length-3 : tie.Need-same-length-3
 same-length-3 c = search needs
 
-sound-found : (c : tie.After-row-or-verdict3) → Half Sound (c .before .before .before .before .before .before .before .before .before .before .before) (c .row-or-verdict3 .result)
-unfolding verdict-numbers
-sound-found c = sound-of _ _ _ (now (c .before .before .before .before .before .before .before .before .before .before .before .args .commitment)) (now (c .before .before .before .before .before .before .before .before .before .before .before .args .answer)) (now (c .before .before .before .before .before .before .before .before .before .before .before .args .work)) _ (c .row-or-verdict3 .ensures ∙ check-agrees _ _ _ (c .before .before .before .before .before .before .check .ensures .0) (c .before .before .found .given .1)) (octets (now (c .before .before .before .before .before .before .before .before .before .before .before .args .answer)) (λ j. c .before .before .before .before .before .before .before .before .before .shared-slice-known2 .given j .fits))
-
 complete-found : (c : tie.After-row-or-verdict3) → Half Complete (c .before .before .before .before .before .before .before .before .before .before .before) (c .row-or-verdict3 .result)
 unfolding verdict-numbers
 complete-found c = complete-of _ _ _ (now (c .before .before .before .before .before .before .before .before .before .before .before .args .commitment)) (now (c .before .before .before .before .before .before .before .before .before .before .before .args .answer)) (now (c .before .before .before .before .before .before .before .before .before .before .before .args .work)) _ (c .row-or-verdict3 .ensures ∙ check-agrees _ _ _ (c .before .before .before .before .before .before .check .ensures .0) (c .before .before .found .given .1))
+
+sound-found : (c : tie.After-row-or-verdict3) → Half Sound (c .before .before .before .before .before .before .before .before .before .before .before) (c .row-or-verdict3 .result)
+unfolding verdict-numbers
+sound-found c = sound-of _ _ _ (now (c .before .before .before .before .before .before .before .before .before .before .before .args .commitment)) (now (c .before .before .before .before .before .before .before .before .before .before .before .args .answer)) (now (c .before .before .before .before .before .before .before .before .before .before .before .args .work)) _ (c .row-or-verdict3 .ensures ∙ check-agrees _ _ _ (c .before .before .before .before .before .before .check .ensures .0) (c .before .before .found .given .1)) (octets (now (c .before .before .before .before .before .before .before .before .before .before .before .args .answer)) (λ j. c .before .before .before .before .before .before .before .before .before .shared-slice-known2 .given j .fits))
 
 returns-3 : tie.Need-returns-3
 unfolding verdict-numbers
