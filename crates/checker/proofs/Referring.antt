@@ -12,9 +12,9 @@ use Rattle.model.specs.Graph.{VersionNode, node-at, no-version}
 use Rattle.model.specs.Question.{Way, backward, forward}
 use Rattle.model.specs.Trace.{refers}
 use Rattle.model.specs.CheckRows.{referred-to, first-unreferenced, unreferenced, is-none}
-use Rattle.graph.specs.declared.Way.{Way as Declared}
-use Rattle.graph.specs.declared.Way.the-variants.{Backward, Forward}
-use Rattle.graph.specs.Ways.{wayOf}
+use Rattle.question.specs.declared.Way.{Way as Declared}
+use Rattle.question.specs.declared.Way.the-variants.{Backward, Forward}
+use Rattle.question.specs.Ways.{wayOf}
 use Rattle.graph.specs.Table.{node-in, nodes-in, Kept, Ready}
 use Rattle.graph.specs.Links.{Starts}
 use Rattle.graph.proofs.Slots.{kept-none, kept-then}

@@ -16,9 +16,9 @@ use Rattle.model.specs.Graph.{VersionNode, node-at}
 use Rattle.model.specs.Accumulator.{Leaf}
 use Rattle.model.specs.Question as question
 use Rattle.model.specs.CheckRows.{leaf-in, unreferenced, is-none, the-place, found-position, path-digests, leaf-digest, trace-rows}
-use Rattle.graph.specs.declared.Way.{Way}
-use Rattle.graph.specs.declared.Way.the-variants.{Backward, Forward}
-use Rattle.graph.specs.Ways.{wayOf}
+use Rattle.question.specs.declared.Way.{Way}
+use Rattle.question.specs.declared.Way.the-variants.{Backward, Forward}
+use Rattle.question.specs.Ways.{wayOf}
 use Rattle.graph.specs.Table.{version, node-in, nodes-in, columns, Ready, IncomingDone, OutgoingDone}
 use Rattle.graph.proofs.Slots.{field-within}
 use Rattle.graph.proofs.Nodes.{length-nodes, node-at-nodes, nodes-kept, map-counting-at, map-counting-same}

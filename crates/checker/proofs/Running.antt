@@ -17,8 +17,8 @@ use Rattle.model.specs.Calls.{cleared, verdict-of, records-part, records-call}
 use Rattle.model.proofs.Outcomes.{bind-eq, bind-refused, ok-inj}
 use Rattle.model.proofs.Asking.{Known, known-by, unknown}
 use Rattle.model.proofs.TraceReading as reading
-use Rattle.log.specs.declared.TimeKey.{TimeKey}
-use Rattle.graph.specs.declared.Way.{Way}
+use Rattle.question.specs.declared.TimeKey.{TimeKey}
+use Rattle.question.specs.declared.Way.{Way}
 use Rattle.graph.specs.Table.{nodes-in}
 use Rattle.graph.proofs.Nodes.{length-nodes}
 use Rattle.proof_reader.specs.declared.Proof.{Proof}

@@ -1,9 +1,9 @@
 // The calls of the checker: whether an answer, which may be any bytes, is the true one under a commitment.
-use graph::Way;
-use log::EntityKey;
-use log::TimeKey;
 use model::LETTER_R;
 use proof_reader::Proof;
+use question::EntityKey;
+use question::TimeKey;
+use question::Way;
 use trace_reader::Trace;
 ghost use mathlib.Core.Path.{_≡_};
 ghost use mathlib.Core.Bool.{cond, _&&_};
@@ -18,7 +18,7 @@ ghost use Rattle.model.specs.Graph.{VersionNode};
 ghost use Rattle.model.specs.Question.{backward, Question, question, SearchEnd, Verdict};
 ghost use Rattle.model.specs.CheckRows.{stopped, found-position, path-digests, leaf-digest, trace-rows, end-here, with-trace, check-end, run};
 ghost use Rattle.model.specs.Calls.{cleared, check-call, records-call};
-ghost use Rattle.graph.specs.Ways.{wayOf};
+ghost use Rattle.question.specs.Ways.{wayOf};
 ghost use Rattle.graph.specs.Table.{node-in, nodes-in, Ready};
 ghost use Rattle.marks.specs.Marks.{is-marked};
 ghost use Rattle.trace_reader.specs.Records.{place-in, places-in};

@@ -1,10 +1,10 @@
 // Reading the proof of an answer: the strings that the walk through the two trees opens, rows 15 to 17. The answer may be any bytes.
-use log::EntityKey;
-use log::TimeKey;
 use model::LETTER_G;
 use model::LETTER_L;
 use model::LETTER_N;
 use model::LETTER_P;
+use question::EntityKey;
+use question::TimeKey;
 ghost use mathlib.Core.Path.{_≡_};
 ghost use Prim.Native.Nat.{_+_, _≤_};
 ghost use lib.ListN.{length, take, drop};

@@ -14,8 +14,8 @@ use Rattle.model.specs.Question.{Question, Opened}
 use Rattle.model.specs.Answer.{proof}
 use Rattle.model.proofs.Strings.{joined-length, num, text, none}
 use Rattle.model.proofs.Open.{root-length, group-length}
-use Rattle.log.specs.declared.EntityKey.{EntityKey}
-use Rattle.log.specs.declared.TimeKey.{TimeKey}
+use Rattle.question.specs.declared.EntityKey.{EntityKey}
+use Rattle.question.specs.declared.TimeKey.{TimeKey}
 use Rattle.graph.specs.Table.{node-in, version, columns, Kept}
 use Rattle.graph.proofs.Nodes.{map-length, node-kept}
 use Rattle.graph.proofs.Strings.{joined-append}

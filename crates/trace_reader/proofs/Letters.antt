@@ -8,9 +8,9 @@ use lib.Dec.{eqb}
 use Rattle.model.specs.Trace.{letter-width}
 use Rattle.model.specs.Question.{forward}
 use Rattle.model.specs.CheckRows.{due}
-use Rattle.graph.specs.declared.Way.{Way}
-use Rattle.graph.specs.declared.Way.the-variants.{Backward, Forward}
-use Rattle.graph.specs.Ways.{wayOf}
+use Rattle.question.specs.declared.Way.{Way}
+use Rattle.question.specs.declared.Way.the-variants.{Backward, Forward}
+use Rattle.question.specs.Ways.{wayOf}
 
 pub first-of : (c a b : ℕ) → c ≡ a → true ≡ (eqb c a || eqb c b)
 first-of c a b e = simp (eq-eqb c a e)

@@ -20,9 +20,9 @@ use Rattle.model.specs.CheckRows.{shown-record, read-record, last-shown, read-r
 use Rattle.model.proofs.Outcomes.{bind-eq, bind-refused}
 use Rattle.model.proofs.CheckSteps.{records-end, records-step}
 use Rattle.model.proofs.TraceReading.{last-shown-snoc}
+use Rattle.question.specs.declared.TimeKey.{TimeKey}
 use Rattle.graph.specs.Table.{nodes-in}
 use Rattle.graph.proofs.Nodes.{length-nodes, map-counting-more, map-counting-same, nodes-more, nodes-same}
-use Rattle.log.specs.declared.TimeKey.{TimeKey}
 use Rattle.trace_reader.specs.declared.Step.{Step}
 use Rattle.trace_reader.specs.declared.Step.the-variants.{Taken, Refused as Halted}
 use Rattle.trace_reader.specs.declared.Records.the-variants.{Read as AllRead, Refused as Turned}

@@ -20,11 +20,11 @@ use Rattle.model.specs.Exact.{Exactly, Reached}
 use Rattle.model.proofs.Lists.{_among_, rising-up, in-elem}
 use Rattle.model.proofs.Paths.{path-from, path-to}
 use Rattle.model.proofs.Search.{refers-in, search-exact-down}
+use Rattle.question.specs.declared.Way.{Way}
+use Rattle.question.specs.declared.Way.the-variants.{Backward, Forward}
+use Rattle.question.specs.Ways.{wayOf}
 use Rattle.graph.specs.Table.{node-in, nodes-in, Ready, Columns, outside, Kept}
 use Rattle.graph.specs.Links.{Starts}
-use Rattle.graph.specs.declared.Way.{Way}
-use Rattle.graph.specs.declared.Way.the-variants.{Backward, Forward}
-use Rattle.graph.specs.Ways.{wayOf}
 use Rattle.graph.proofs.Slots.{kept-none, kept-then}
 use Rattle.graph.proofs.Nodes.{length-nodes, node-at-nodes, node-kept, nodes-kept}
 use Rattle.graph.proofs.Incoming.{starts}

@@ -15,11 +15,11 @@ use Rattle.model.specs.Numbers.{Bytes}
 use Rattle.model.specs.Graph.{InEdge, temporal, dependency}
 use Rattle.model.specs.Question as question
 use Rattle.model.specs.Trace.{trace-letter, entry-letter, one-edge-string, record-string-by, trace, trace-string}
+use Rattle.question.specs.declared.Way.{Way}
+use Rattle.question.specs.declared.Way.the-variants.{Backward, Forward}
+use Rattle.question.specs.Ways.{wayOf}
 use Rattle.graph.specs.Table.{node-in, nodes-in}
 use Rattle.graph.specs.Links.{name-string, Starts}
-use Rattle.graph.specs.declared.Way.{Way}
-use Rattle.graph.specs.declared.Way.the-variants.{Backward, Forward}
-use Rattle.graph.specs.Ways.{wayOf}
 use Rattle.graph.proofs.Slots.{Wrote, wrote, and-behind}
 use Rattle.graph.proofs.Strings.{encode-byte, length-name}
 use Rattle.marks.specs.Marks.{is-marked}

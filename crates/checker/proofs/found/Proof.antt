@@ -1,4 +1,4 @@
-use Rattle.graph.specs.Ways.{wayOf}
+use Rattle.question.specs.Ways.{wayOf}
 use Rattle.checker.proofs.Running.{found-only, found-back, found-fore}
 use borrow.Author.Needs.{needs}
 use Rattle.checker.proofs.found.Statement.{statement}

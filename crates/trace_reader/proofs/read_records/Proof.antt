@@ -4,7 +4,7 @@ use mathlib.Core.Path.{_≡_, refl}
 use denote.Ref.{now}
 use lib.ListN.{length}
 use Prim.Native.Nat.{_-_}
-use Rattle.graph.specs.Ways.{wayOf}
+use Rattle.question.specs.Ways.{wayOf}
 use Rattle.trace_reader.proofs.Slotting.{absent-is}
 use Rattle.trace_reader.proofs.Sequence.{ReadTo, none-read, stops-there, goes-on, all-read}
 use Rattle.trace_reader.proofs.read_records.Statement.{statement}

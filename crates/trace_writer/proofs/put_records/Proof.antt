@@ -1,4 +1,4 @@
-use Rattle.graph.specs.Ways.{wayOf}
+use Rattle.question.specs.Ways.{wayOf}
 use Prim.Native.Nat.{_-_}
 use Rattle.trace_writer.proofs.Writing.{Filling, filling-none, filling-size, filling-fits, filling-more, filling-all}
 use borrow.Author.Needs.{needs}
