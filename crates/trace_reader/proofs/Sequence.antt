@@ -63,18 +63,6 @@ none-read way count answer start work h =
     let all : count ≡ count - 0 = omega arith in
     record { rest = ap (λ (k : ℕ). read-records way k [] [] (start + 5) (drop (start + 5) answer)) all; few = omega arith; before = refl; inside = h; begun = omega arith; near = omega arith }
 
-abbrev is-taken : Step → Type 0
-is-taken (Taken w t) = Unit {0}
-is-taken (Halted n) = ⊥
-
-number-of : Step → ℕ
-number-of (Taken w t) = w
-number-of (Halted n) = n
-
-time-of : Step → ℕ
-time-of (Taken w t) = t .0
-time-of (Halted n) = n
-
 module _ (way : Way) (count : ℕ) (answer : Bytes) (start i last : ℕ) (work : Bytes) (at : ℕ) (R : ReadTo way count answer start i last work at) (more : i < count) where
   next : (m : Result VersionNode) → read-record way i (beforeOf i last) at (drop at answer) ≡ m
       → read-record way (length (nodes-in work i)) (last-shown (nodes-in work i)) at (drop at answer) ≡ m
@@ -92,10 +80,10 @@ module _ (way : Way) (count : ℕ) (answer : Bytes) (start i last : ℕ) (work :
 
   pub stops-there : (work′ : Bytes) (place : ℕ) (s : Step) → Steps way i last answer at work work′ place s → (n : ℕ) → s ≡ Halted n
       → RecordsAre (read-records way count [] [] (start + 5) (drop (start + 5) answer)) answer start count work′ (Turned n at)
-  unfolding number-of
-  stops-there work′ place s (taken c w t sh put hw ht) n e = absurd (subst is-taken e tt)
-  stops-there work′ place s (halted m h) n e =
-      turned n at (one-step ∙ bind-refused _ _ m at (next (refuse m at) h) ∙ ap (λ (x : ℕ). refuse x at) (ap number-of e))
+  stops-there work′ place s S n e = go (subst (Steps way i last answer at work work′ place) e S)
+    where
+      go : Steps way i last answer at work work′ place (Halted n) → RecordsAre (read-records way count [] [] (start + 5) (drop (start + 5) answer)) answer start count work′ (Turned n at)
+      go (halted _ h) = turned n at (one-step ∙ bind-refused _ _ n at (next (refuse n at) h))
 
   module _ (c w : ℕ) (t : ℕ) (work′ : Bytes) (sh : Shown way i last answer at c) (put : RecordPut work work′ i (shown-record c (drop at answer)) (at - start)) (hw : w ≡ letter-width c) (ht : t ≡ field 8 answer (at + 5)) where
     n : VersionNode
@@ -136,9 +124,10 @@ module _ (way : Way) (count : ℕ) (answer : Bytes) (start i last : ℕ) (work :
 
   pub goes-on : (work′ : Bytes) (s : Step) → Steps way i last answer at work work′ (at - start) s → (w : ℕ) (t : TimeKey) → s ≡ Taken w t
       → ReadTo way count answer start (i + 1) (t .0) work′ (at + w)
-  unfolding number-of time-of
-  goes-on work′ s (taken c v u sh put hw ht) w t e = goes c w (t .0) work′ sh put (sym (ap number-of e) ∙ hw) (sym (ap time-of e) ∙ ht)
-  goes-on work′ s (halted m h) w t e = absurd (subst is-taken (sym e) tt)
+  goes-on work′ s S w t e = go (subst (Steps way i last answer at work work′ (at - start)) e S)
+    where
+      go : Steps way i last answer at work work′ (at - start) (Taken w t) → ReadTo way count answer start (i + 1) (t .0) work′ (at + w)
+      go (taken c _ _ sh put hw ht) = goes c w (t .0) work′ sh put hw ht
 
 pub all-read : (way : Way) (count : ℕ) (answer : Bytes) (start i last : ℕ) (work : Bytes) (at : ℕ) → ReadTo way count answer start i last work at → count ≤ i
     → RecordsAre (read-records way count [] [] (start + 5) (drop (start + 5) answer)) answer start count work (AllRead at)
