@@ -1,9 +1,16 @@
 // The calls of the checker: whether an answer, which may be any bytes, is the true one under a commitment.
+use graph::INCOMING_COLUMN;
+use graph::OUTGOING_COLUMN;
+use graph::PLACE_COLUMN;
+use graph::SLOT_WIDTH;
 use model::LETTER_R;
 use proof_reader::Proof;
 use question::EntityKey;
 use question::TimeKey;
 use question::Way;
+use strings::DIGEST_WIDTH;
+use strings::L_INCOMING;
+use strings::TRACE_HEADER_WIDTH;
 use trace_reader::Trace;
 ghost use mathlib.Core.Path.{_≡_};
 ghost use mathlib.Core.Bool.{cond, _&&_};
@@ -18,8 +25,10 @@ ghost use Rattle.model.specs.Graph.{VersionNode};
 ghost use Rattle.model.specs.Question.{backward, Question, question, SearchEnd, Verdict};
 ghost use Rattle.model.specs.CheckRows.{stopped, found-position, path-digests, leaf-digest, trace-rows, end-here, with-trace, check-end, run};
 ghost use Rattle.model.specs.Calls.{cleared, check-call, records-call};
+ghost use Rattle.model.specs.Trace.{trace-header-width};
+ghost use Rattle.model.specs.Accumulator.{L-width};
 ghost use Rattle.question.specs.Ways.{wayOf};
-ghost use Rattle.graph.specs.Table.{node-in, nodes-in, Ready};
+ghost use Rattle.graph.specs.Table.{Slot, node-in, nodes-in, Ready};
 ghost use Rattle.marks.specs.Marks.{is-marked};
 ghost use Rattle.trace_reader.specs.Records.{place-in, places-in};
 ghost use Rattle.checker.specs.declared.Checking.the-variants.{Refused};
@@ -37,7 +46,7 @@ pub enum Checking {
 
 // i if its slot has no mark, else the lowest so far.
 fn lower(work: &[u8], i: usize, lowest: usize) -> usize
-    requires { ⌜ 128 * i + 128 ≤ length (now work) ⌝ }
+    requires { ⌜ Slot (now work) i ⌝ }
     ensures { λ r. ⌜ r ≡ cond (is-marked (now (work .entry)) i) lowest i ⌝ }
 {
     if marks::marked(work, i) {
@@ -90,15 +99,15 @@ fn found_position(way: Way, n: usize) -> usize
 
 // Where in the answer the record in a slot stands, of a trace that begins at `start`.
 fn position_of(work: &[u8], start: usize, i: usize) -> usize
-    requires { ⌜ (128 * i + 128 ≤ length (now work)) × (start < 2 ^ 63) ⌝ }
+    requires { ⌜ Slot (now work) i × (start < 2 ^ 63) ⌝ }
     ensures { λ r. ⌜ r ≡ place-in (now (work .entry)) start i ⌝ }
 {
-    start + fields::get_u32(work, 128 * i + 96) as usize
+    start + fields::get_u32(work, SLOT_WIDTH * i + PLACE_COLUMN) as usize
 }
 
 // Whether the version in a slot is the leaf's.
 fn same_version(work: &[u8], i: usize, answer: &[u8], leaf: usize) -> bool
-    requires { ⌜ (128 * i + 128 ≤ length (now work)) × (leaf + 77 ≤ length (now answer)) ⌝ }
+    requires { ⌜ Slot (now work) i × (leaf + L-width ≤ length (now answer)) ⌝ }
     ensures { λ r. ⌜ r ≡ (eqb (node-in (now (work .entry)) i .entity) (leaf-in-answer (now (answer .entry)) leaf .entity) && eqb (node-in (now (work .entry)) i .time) (leaf-in-answer (now (answer .entry)) leaf .time)) ⌝ }
 {
     let entity = proof_reader::leaf_entity(answer, leaf);
@@ -114,8 +123,8 @@ fn column_of(way: Way) -> usize
     ensures { λ r. ⌜ r ≡ digest-column (wayOf way) ⌝ }
 {
     match way {
-        Way::Backward => 0,
-        Way::Forward => 32,
+        Way::Backward => INCOMING_COLUMN,
+        Way::Forward => OUTGOING_COLUMN,
     }
 }
 
@@ -139,12 +148,18 @@ fn same_digest(
     leaf: usize,
     constants: &[u32; 64],
 ) -> bool
-    requires { ⌜ (Ready (now work) n × (i < n) × (leaf + 77 ≤ length (now answer))) × (now constants ≡ K) ⌝ }
+    requires { ⌜ (Ready (now work) n × (i < n) × (leaf + L-width ≤ length (now answer))) × (now constants ≡ K) ⌝ }
     ensures { λ r. ⌜ r ≡ equal (getD (path-digests (wayOf way) (nodes-in (now (work .entry)) n)) i []) (leaf-digest (wayOf way) (leaf-in-answer (now (answer .entry)) leaf)) ⌝ }
 {
     put_digests(way, work, n, constants);
     let column = column_of(way);
-    fields::same(work, 128 * i + column, answer, leaf + 13 + column, 32)
+    fields::same(
+        work,
+        SLOT_WIDTH * i + column,
+        answer,
+        leaf + L_INCOMING + column,
+        DIGEST_WIDTH,
+    )
 }
 
 // A row that is met, and where, or none.
@@ -163,7 +178,7 @@ fn found_rows(
     work: &mut [u8],
     constants: &[u32; 64],
 ) -> Rows
-    requires { ⌜ (Ready (now work) n × (0 < n) × (leaf + 77 ≤ length (now answer)) × (start ≤ length (now answer))) × (now constants ≡ K) ⌝ }
+    requires { ⌜ (Ready (now work) n × (0 < n) × (leaf + L-width ≤ length (now answer)) × (start ≤ length (now answer))) × (now constants ≡ K) ⌝ }
     ensures { λ r. ⌜ r ≡ rowsOf (found-rows (wayOf way) (leaf-in-answer (now (answer .entry)) leaf) (nodes-in (now (work .entry)) n) (places-in (now (work .entry)) start n)) ⌝ }
 {
     let i = found_position(way, n);
@@ -194,7 +209,7 @@ fn trace_rows(
     work: &mut [u8],
     constants: &[u32; 64],
 ) -> Rows
-    requires { ⌜ (Ready (now work) n × (0 < n) × (leaf + 77 ≤ length (now answer)) × (start ≤ length (now answer)) × (end ≤ length (now answer))) × (now constants ≡ K) ⌝ }
+    requires { ⌜ (Ready (now work) n × (0 < n) × (leaf + L-width ≤ length (now answer)) × (start ≤ length (now answer)) × (end ≤ length (now answer))) × (now constants ≡ K) ⌝ }
     ensures { λ r. ⌜ r ≡ rowsOf (trace-rows (wayOf way) (leaf-in-answer (now (answer .entry)) leaf) (trace-in (now (answer .entry)) (now (work .entry)) start n end)) ⌝ }
 {
     if end < answer.len() {
@@ -266,14 +281,14 @@ fn traced(
     work: &mut [u8],
     constants: &[u32; 64],
 ) -> Run
-    requires { ⌜ (Ready (now work) n × (0 < n) × (leaf + 77 ≤ length (now answer)) × (at + 5 ≤ length (now answer)) × (end ≤ length (now answer))) × (now constants ≡ K) ⌝ }
+    requires { ⌜ (Ready (now work) n × (0 < n) × (leaf + L-width ≤ length (now answer)) × (at + trace-header-width ≤ length (now answer)) × (end ≤ length (now answer))) × (now constants ≡ K) ⌝ }
     ensures { λ r. ⌜ ((size : ℕ) → Traced (wayOf way) size (now (answer .entry)) at (now (work .entry)) n end → RunIs (now (answer .entry)) (with-trace (wayOf way) size (found-proof (now (answer .entry)) leaf at) (leaf-in-answer (now (answer .entry)) leaf)) r) ⌝ }
 {
     match trace_rows(way, answer, leaf, at, n, end, work, constants) {
         Rows::Refused { number, position } => refused(number, position),
         Rows::Passed => {
             let time = proof_reader::leaf_time(answer, leaf);
-            let start = at + 5;
+            let start = at + TRACE_HEADER_WIDTH;
             let length = answer.len() - start;
             Run {
                 verdict: Checking::Found {
@@ -296,7 +311,7 @@ fn with_trace(
     work: &mut [u8],
     constants: &[u32; 64],
 ) -> Run
-    requires { ⌜ ((leaf + 77 ≤ length (now answer)) × (at ≤ length (now answer))) × (now constants ≡ K) ⌝ }
+    requires { ⌜ ((leaf + L-width ≤ length (now answer)) × (at ≤ length (now answer))) × (now constants ≡ K) ⌝ }
     ensures { λ r. ⌜ RunIs (now (answer .entry)) (with-trace (wayOf way) (length (now (work .entry))) (found-proof (now (answer .entry)) leaf at) (leaf-in-answer (now (answer .entry)) leaf)) r ⌝ }
 {
     match trace_reader::read_trace(answer, at, way, work) {
@@ -314,7 +329,7 @@ fn found(
     work: &mut [u8],
     constants: &[u32; 64],
 ) -> Run
-    requires { ⌜ ((direction ≤ 2) × (leaf + 77 ≤ length (now answer)) × (at ≤ length (now answer))) × (now constants ≡ K) ⌝ }
+    requires { ⌜ ((direction ≤ 2) × (leaf + L-width ≤ length (now answer)) × (at ≤ length (now answer))) × (now constants ≡ K) ⌝ }
     ensures { λ r. ⌜ ((s t : ℕ) (q : Question) → question direction s t ≡ ok q → RunIs (now (answer .entry)) (check-end (q .part) (length (now (work .entry))) (found-proof (now (answer .entry)) leaf at) (SearchEnd.found (leaf-in-answer (now (answer .entry)) leaf))) r) ⌝ }
 {
     if direction == 0 {
@@ -348,7 +363,7 @@ fn run_check(
     if direction > 2 {
         return refused(11, 0);
     }
-    if commitment.len() != 32 {
+    if commitment.len() != DIGEST_WIDTH {
         return refused(14, 0);
     }
     let constants = round_constants::work_out();

@@ -8,17 +8,17 @@ use lib.ListN.{length}
 use Rattle.fields.specs.Fields.{field}
 use Rattle.model.specs.Numbers.{Bytes}
 use Rattle.model.specs.Trace.{refers}
-use Rattle.graph.specs.Table.{absent, node-in, Columns, columns, Kept}
+use Rattle.graph.specs.Table.{slot-width, Slot, absent, node-in, Columns, columns, Kept}
 
 abbrev pub mark-column : List Columns
 mark-column = columns 81 82 ∷ []
 
 unfoldable pub is-marked : Bytes → ℕ → Bool
-is-marked work j = eqb (field 1 work (128 * j + 81)) 1
+is-marked work j = eqb (field 1 work (slot-width * j + 81)) 1
 
 -- an edge's start stands in the table, if there is such an edge
 pub record Stands (work : Bytes) (p : ℕ) : Type 0 where
-  pub room : p < absent → 128 * p + 128 ≤ length work
+  pub room : p < absent → Slot work p
 
 -- ---- what a routine leaves
 

@@ -1,34 +1,37 @@
 // A mark for each slot of the node table, one byte at column 81.
 use graph::ABSENT;
+use graph::MARK_COLUMN;
+use graph::SLOT_WIDTH;
 use graph::previous_of;
 use graph::source_of;
 ghost use mathlib.Core.Path.{_≡_};
 ghost use Prim.Native.Nat.{_+_, _*_, _≤_};
 ghost use lib.ListN.{length};
 ghost use Rattle.graph.specs.Links.{Starts};
+ghost use Rattle.graph.specs.Table.{slot-width, Slot};
 ghost use Rattle.marks.specs.Marks.{is-marked, Stands, MarkSet, Unmarked, StartMarked, StartsMarked};
 
 pub fn marked(work: &[u8], i: usize) -> bool
-    requires { ⌜ 128 * i + 128 ≤ length (now work) ⌝ }
+    requires { ⌜ Slot (now work) i ⌝ }
     ensures { λ r. ⌜ r ≡ is-marked (now (work .entry)) i ⌝ }
 {
-    work[128 * i + 81] == 1
+    work[SLOT_WIDTH * i + MARK_COLUMN] == 1
 }
 
 pub fn set_mark(work: &mut [u8], i: usize, mark: bool)
-    requires { ⌜ 128 * i + 128 ≤ length (now work) ⌝ }
+    requires { ⌜ Slot (now work) i ⌝ }
     ensures { λ _. ⌜ MarkSet (now (work .entry)) (now (work .exit)) i mark ⌝ }
 {
     if mark {
-        work[128 * i + 81] = 1;
+        work[SLOT_WIDTH * i + MARK_COLUMN] = 1;
         return;
     }
-    work[128 * i + 81] = 0;
+    work[SLOT_WIDTH * i + MARK_COLUMN] = 0;
 }
 
 // Takes the marks off the first n slots.
 pub fn clear_marks(work: &mut [u8], n: usize)
-    requires { ⌜ 128 * n ≤ length (now work) ⌝ }
+    requires { ⌜ slot-width * n ≤ length (now work) ⌝ }
     ensures { λ _. ⌜ Unmarked (now (work .entry)) (now (work .exit)) n ⌝ }
 {
     let mut i: usize = 0;

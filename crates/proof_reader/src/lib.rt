@@ -5,14 +5,28 @@ use model::LETTER_N;
 use model::LETTER_P;
 use question::EntityKey;
 use question::TimeKey;
+use strings::BRANCH_LEFT;
+use strings::BRANCH_RIGHT;
+use strings::BRANCH_WIDTH;
+use strings::DIGEST_WIDTH;
+use strings::G_VERSIONS;
+use strings::G_WIDTH;
+use strings::L_ENTITY;
+use strings::L_TIME;
+use strings::L_WIDTH;
+use strings::R_TREE;
+use strings::R_WIDTH;
+use strings::SUBTREE_DIGEST;
+use strings::SUBTREE_GREATEST;
 ghost use mathlib.Core.Path.{_≡_};
 ghost use Prim.Native.Nat.{_+_, _≤_};
 ghost use lib.ListN.{length, take, drop};
 ghost use Rattle.fields.specs.Fields.{part, field};
 ghost use Rattle.round_constants.specs.Constants.{K};
-ghost use Rattle.model.specs.Accumulator.{versions-layout, entities-layout};
+ghost use Rattle.model.specs.Accumulator.{L-width, branch-width, versions-layout, entities-layout};
 ghost use Rattle.model.specs.Question.{Question, at-or-before, by-entity, by-time};
 ghost use Rattle.model.specs.CheckRows.{subtree-in, leaf-in, check-proof};
+ghost use Rattle.model.specs.Numbers.{digest-width};
 ghost use Rattle.proof_reader.specs.Walks.{Takes, Opens, side-of, Steps, versions-at, entities-at, ProofIs};
 
 // ---- strings
@@ -33,8 +47,8 @@ fn take_string(
     due: usize,
     constants: &[u32; 64],
 ) -> Taking
-    requires { ⌜ ((at ≤ length (now answer)) × (due + 32 ≤ length (now digests))) × (now constants ≡ K) ⌝ }
-    ensures { λ r. ⌜ Takes (now (answer .entry)) at letter width (part (now (digests .entry)) due 32) r ⌝ }
+    requires { ⌜ ((at ≤ length (now answer)) × (due + digest-width ≤ length (now digests))) × (now constants ≡ K) ⌝ }
+    ensures { λ r. ⌜ Takes (now (answer .entry)) at letter width (part (now (digests .entry)) due digest-width) r ⌝ }
 {
     let left = answer.len() - at;
     if left == 0 {
@@ -48,7 +62,7 @@ fn take_string(
     }
     let end = at + width;
     let digest = sha256::digest(&answer[at..end], constants);
-    if fields::same(&digest, 0, digests, due, 32) {
+    if fields::same(&digest, 0, digests, due, DIGEST_WIDTH) {
         return Taking::Taken;
     }
     Taking::Refused { number: 17 }
@@ -75,14 +89,30 @@ fn open(
     ensures { λ r. ⌜ Opens leaf width inner (now (answer .entry)) at (subtree-in (now (answer .entry)) known) r ⌝ }
 {
     let least = fields::get_u64(answer, known);
-    let greatest = fields::get_u64(answer, known + 8);
+    let greatest = fields::get_u64(answer, known + SUBTREE_GREATEST);
     if least == greatest {
-        return match take_string(answer, at, leaf, width, answer, known + 16, constants) {
+        return match take_string(
+            answer,
+            at,
+            leaf,
+            width,
+            answer,
+            known + SUBTREE_DIGEST,
+            constants,
+        ) {
             Taking::Taken => Opening::Leaf,
             Taking::Refused { number } => Opening::Refused { number: number },
         };
     }
-    match take_string(answer, at, inner, 97, answer, known + 16, constants) {
+    match take_string(
+        answer,
+        at,
+        inner,
+        BRANCH_WIDTH,
+        answer,
+        known + SUBTREE_DIGEST,
+        constants,
+    ) {
         Taking::Taken => Opening::Inner,
         Taking::Refused { number } => Opening::Refused { number: number },
     }
@@ -107,7 +137,7 @@ impl EntityTreeAt {
         requires { ⌜ self .0 + 48 ≤ length (now answer) ⌝ }
         ensures { λ r. ⌜ r .0 ≡ field 8 (now (answer .entry)) (self .0 + 8) ⌝ }
     {
-        EntityKey(fields::get_u64(answer, self.0 + 8))
+        EntityKey(fields::get_u64(answer, self.0 + SUBTREE_GREATEST))
     }
 }
 
@@ -141,11 +171,11 @@ fn before(answer: &[u8], tree: VersionTreeAt, time: TimeKey) -> bool
 
 // The side of the string P at a place: left if the entity is at most the left's greatest key.
 fn entity_side(answer: &[u8], at: usize, entity: EntityKey) -> EntityTreeAt
-    requires { ⌜ at + 97 ≤ length (now answer) ⌝ }
+    requires { ⌜ at + branch-width ≤ length (now answer) ⌝ }
     ensures { λ r. ⌜ r .0 ≡ side-of (by-entity (entity .0)) (now (answer .entry)) at ⌝ }
 {
-    let left = EntityTreeAt(at + 1);
-    let right = EntityTreeAt(at + 49);
+    let left = EntityTreeAt(at + BRANCH_LEFT);
+    let right = EntityTreeAt(at + BRANCH_RIGHT);
     if left.greatest(answer).below(entity) {
         return right;
     }
@@ -154,11 +184,11 @@ fn entity_side(answer: &[u8], at: usize, entity: EntityKey) -> EntityTreeAt
 
 // The side of the string N at a place: right if the time is at least the right's least key.
 fn version_side(answer: &[u8], at: usize, time: TimeKey) -> VersionTreeAt
-    requires { ⌜ at + 97 ≤ length (now answer) ⌝ }
+    requires { ⌜ at + branch-width ≤ length (now answer) ⌝ }
     ensures { λ r. ⌜ r .0 ≡ side-of (by-time at-or-before (time .0)) (now (answer .entry)) at ⌝ }
 {
-    let left = VersionTreeAt(at + 1);
-    let right = VersionTreeAt(at + 49);
+    let left = VersionTreeAt(at + BRANCH_LEFT);
+    let right = VersionTreeAt(at + BRANCH_RIGHT);
     if time.below(right.least(answer)) {
         return left;
     }
@@ -187,7 +217,7 @@ fn entity_step(
     if outside(answer, tree, entity) {
         return Step::Stops;
     }
-    match open(answer, at, tree.0, LETTER_G, 57, LETTER_P, constants) {
+    match open(answer, at, tree.0, LETTER_G, G_WIDTH, LETTER_P, constants) {
         Opening::Refused { number } => Step::Refused { number: number },
         Opening::Leaf => Step::Leaf,
         Opening::Inner => {
@@ -211,7 +241,7 @@ fn version_step(
     if before(answer, tree, time) {
         return Step::Stops;
     }
-    match open(answer, at, tree.0, LETTER_L, 77, LETTER_N, constants) {
+    match open(answer, at, tree.0, LETTER_L, L_WIDTH, LETTER_N, constants) {
         Opening::Refused { number } => Step::Refused { number: number },
         Opening::Leaf => Step::Leaf,
         Opening::Inner => {
@@ -256,7 +286,7 @@ fn walk_versions(
                 };
             }
             Step::Leaf => {
-                let end = next + 77;
+                let end = next + L_WIDTH;
                 return Proof::Found {
                     leaf: next,
                     at: end,
@@ -264,7 +294,7 @@ fn walk_versions(
             }
             Step::Inner { known } => {
                 tree = VersionTreeAt(known);
-                next += 97;
+                next += BRANCH_WIDTH;
             }
         }
     }
@@ -296,11 +326,17 @@ fn walk_entities(
                 };
             }
             Step::Leaf => {
-                return walk_versions(answer, next + 57, VersionTreeAt(next + 9), time, constants);
+                return walk_versions(
+                    answer,
+                    next + G_WIDTH,
+                    VersionTreeAt(next + G_VERSIONS),
+                    time,
+                    constants,
+                );
             }
             Step::Inner { known } => {
                 tree = EntityTreeAt(known);
-                next += 97;
+                next += BRANCH_WIDTH;
             }
         }
     }
@@ -316,19 +352,19 @@ pub fn check_proof(
     at: usize,
     constants: &[u32; 64],
 ) -> Proof
-    requires { ⌜ ((length (now commitment) ≡ 32) × (at ≤ length (now answer))) × (now constants ≡ K) ⌝ }
+    requires { ⌜ ((length (now commitment) ≡ digest-width) × (at ≤ length (now answer))) × (now constants ≡ K) ⌝ }
     ensures { λ r. ⌜ ((q : Question) → q .relation ≡ at-or-before → q .entity ≡ entity .0 → q .time ≡ time .0 → ProofIs (now (answer .entry)) (check-proof letter q (now (commitment .entry)) at (drop at (now (answer .entry)))) r) ⌝ }
 {
-    match take_string(answer, at, letter, 65, commitment, 0, constants) {
+    match take_string(answer, at, letter, R_WIDTH, commitment, 0, constants) {
         Taking::Refused { number } => Proof::Refused {
             number: number,
             position: at,
         },
         Taking::Taken => {
-            let known = at + 17;
+            let known = at + R_TREE;
             walk_entities(
                 answer,
-                at + 65,
+                at + R_WIDTH,
                 EntityTreeAt(known),
                 entity,
                 time,
@@ -338,19 +374,19 @@ pub fn check_proof(
     }
 }
 
-// ---- the leaf found: its digests stand 13 and 45 bytes behind its first
+// ---- the leaf found
 
 pub fn leaf_entity(answer: &[u8], leaf: usize) -> EntityKey
-    requires { ⌜ leaf + 77 ≤ length (now answer) ⌝ }
-    ensures { λ r. ⌜ r .0 ≡ leaf-in (take 77 (drop leaf (now (answer .entry)))) .entity ⌝ }
+    requires { ⌜ leaf + L-width ≤ length (now answer) ⌝ }
+    ensures { λ r. ⌜ r .0 ≡ leaf-in (take L-width (drop leaf (now (answer .entry)))) .entity ⌝ }
 {
-    let n = fields::get_u32(answer, leaf + 1);
+    let n = fields::get_u32(answer, leaf + L_ENTITY);
     EntityKey(n as u64)
 }
 
 pub fn leaf_time(answer: &[u8], leaf: usize) -> TimeKey
-    requires { ⌜ leaf + 77 ≤ length (now answer) ⌝ }
-    ensures { λ r. ⌜ r .0 ≡ leaf-in (take 77 (drop leaf (now (answer .entry)))) .time ⌝ }
+    requires { ⌜ leaf + L-width ≤ length (now answer) ⌝ }
+    ensures { λ r. ⌜ r .0 ≡ leaf-in (take L-width (drop leaf (now (answer .entry)))) .time ⌝ }
 {
-    TimeKey(fields::get_u64(answer, leaf + 5))
+    TimeKey(fields::get_u64(answer, leaf + L_TIME))
 }

@@ -2,25 +2,34 @@
 use accumulator::EntityTree;
 use accumulator::Subtree;
 use accumulator::VersionTree;
+use graph::LEAF_DIGEST_COLUMN;
+use graph::LEAF_KEY_COLUMN;
 use graph::NO_SLOT;
+use graph::OUTGOING_COLUMN;
+use graph::SLOT_WIDTH;
 use model::LETTER_N;
 use model::LETTER_P;
 use question::EntityKey;
 use question::TimeKey;
+use strings::BRANCH_WIDTH;
+use strings::DIGEST_WIDTH;
+use strings::G_WIDTH;
+use strings::L_WIDTH;
+use strings::R_WIDTH;
 ghost use mathlib.Core.Path.{_≡_};
 ghost use mathlib.Core.Bool.{_||_};
 ghost use mathlib.Core.List.{List, [], _∷_, _++_};
 ghost use Prim.Native.Nat.{ℕ, _+_, _-_, _*_, _≤_, _<_};
 ghost use lib.Dec.{T, ltb, leb};
 ghost use lib.ListN.{length};
-ghost use Rattle.fields.specs.Fields.{field, written};
+ghost use Rattle.fields.specs.Fields.{written};
 ghost use Rattle.round_constants.specs.Constants.{K};
 ghost use Rattle.model.specs.Numbers.{joined};
 ghost use Rattle.model.specs.Graph.{VersionNode, node-at};
-ghost use Rattle.model.specs.Accumulator.{largest-power-below, is-entry, Group, entities-layout, leaf-string, root};
+ghost use Rattle.model.specs.Accumulator.{L-width, branch-width, R-width, largest-power-below, is-entry, Group, entities-layout, leaf-string, root};
 ghost use Rattle.model.specs.Question.{Question};
 ghost use Rattle.model.specs.Answer.{proof};
-ghost use Rattle.graph.specs.Table.{node-in, columns, Kept};
+ghost use Rattle.graph.specs.Table.{Slot, time-in, node-in, columns, Kept};
 ghost use Rattle.accumulator.specs.Trees.{headerOf};
 ghost use Rattle.proof_writer.specs.StoredLeaves.{Graphed, HasGraph, key-in, LeafStored, LeavesStored, HasLeaves, EntityLeavesStored, VersionLeavesStored, version-at};
 ghost use Rattle.proof_writer.specs.Walks.{Among, half-of, EntitySought, DepthIs, latest-of, VersionsOf, HasVersion, FirstVersion};
@@ -30,12 +39,18 @@ ghost use Rattle.proof_writer.specs.Plans.{entity-path, front-bytes, Fou
 
 // Stores a leaf, its key and its digest, in slot i.
 fn store_leaf(work: &mut [u8], i: usize, k: Subtree)
-    requires { ⌜ 128 * i + 128 ≤ length (now work) ⌝ }
+    requires { ⌜ Slot (now work) i ⌝ }
     ensures { λ _. ⌜ LeafStored (now (work .entry)) (now (work .exit)) i (k .least) (k .digest) ⌝ }
 {
     let digest = k.digest;
-    fields::put_u64(work, 128 * i + 84, k.least);
-    fields::copy(work, 128 * i + 92, &digest, 0, 32);
+    fields::put_u64(work, SLOT_WIDTH * i + LEAF_KEY_COLUMN, k.least);
+    fields::copy(
+        work,
+        SLOT_WIDTH * i + LEAF_DIGEST_COLUMN,
+        &digest,
+        0,
+        DIGEST_WIDTH,
+    );
 }
 
 // The leaves of the tree of entities, and how many there are.
@@ -71,10 +86,10 @@ fn put_version_leaves(work: &mut [u8], entry: usize, n: usize, constants: &[u32;
 }
 
 fn key_at(work: &[u8], i: usize) -> EntityKey
-    requires { ⌜ 128 * i + 128 ≤ length (now work) ⌝ }
+    requires { ⌜ Slot (now work) i ⌝ }
     ensures { λ r. ⌜ r .0 ≡ key-in (now (work .entry)) i ⌝ }
 {
-    EntityKey(fields::get_u64(work, 128 * i + 84))
+    EntityKey(fields::get_u64(work, SLOT_WIDTH * i + LEAF_KEY_COLUMN))
 }
 
 // ---- halves
@@ -206,8 +221,8 @@ struct Latest {
 
 // One version more.
 fn with_version(work: &[u8], i: usize, time: TimeKey, l: Latest) -> Latest
-    requires { ⌜ (128 * i + 128 ≤ length (now work)) × (l .before < 65535) ⌝ }
-    ensures { λ r. ⌜ r ≡ latest-of (time .0) (field 8 (now (work .entry)) (128 * i + 64)) i l ⌝ }
+    requires { ⌜ Slot (now work) i × (l .before < 65535) ⌝ }
+    ensures { λ r. ⌜ r ≡ latest-of (time .0) (time-in (now (work .entry)) i) i l ⌝ }
 {
     if time.below(graph::time_of(work, i)) {
         return l;
@@ -246,6 +261,9 @@ fn count_versions(work: &[u8], entry: usize, n: usize, time: TimeKey) -> Version
 
 // ---- the plan
 
+// R and G.
+const R_G_WIDTH: usize = R_WIDTH + G_WIDTH;
+
 // The walk in the tree of entities: their number, and how many strings P it opens on the way to a leaf.
 pub struct EntityPath {
     count: usize,
@@ -282,7 +300,7 @@ fn plan_entity(work: &[u8], n: usize, path: EntityPath, entity: EntityKey, time:
 {
     let entry = first_version(work, n, entity);
     let v = count_versions(work, entry, n, time);
-    let length = 122 + 97 * path.depth;
+    let length = R_G_WIDTH + BRANCH_WIDTH * path.depth;
     if v.before == 0 {
         return Planned::NotYet {
             length: length,
@@ -293,7 +311,7 @@ fn plan_entity(work: &[u8], n: usize, path: EntityPath, entity: EntityKey, time:
     let index = v.before - 1;
     let depth = leaf_depth(v.count, index);
     Planned::Found {
-        length: length + (97 * depth + 77),
+        length: length + (BRANCH_WIDTH * depth + L_WIDTH),
         path: path,
         entry: entry,
         slot: v.slot,
@@ -317,7 +335,7 @@ pub fn plan(
     let count = put_entity_leaves(work, n, constants);
     match seek_entity(work, count, entity) {
         Sought::Absent { target, depth } => Planned::NoEntity {
-            length: 65 + 97 * depth,
+            length: R_WIDTH + BRANCH_WIDTH * depth,
             path: EntityPath {
                 count: count,
                 target: target,
@@ -367,21 +385,21 @@ fn put_front(
     out: &mut [u8],
     constants: &[u32; 64],
 )
-    requires { ⌜ (HasGraph (now work) n × PathFits (now work) path × (65 + 97 * path .depth ≤ length (now out))) × (now constants ≡ K) ⌝ }
+    requires { ⌜ (HasGraph (now work) n × PathFits (now work) path × (R-width + branch-width * path .depth ≤ length (now out))) × (now constants ≡ K) ⌝ }
     ensures { λ _. ⌜ ((ns : List VersionNode) → Graphed (now (work .entry)) n ns → PathIs (now (work .entry)) ns path → now (out .exit) ≡ written (now (out .entry)) 0 (joined (root (headerOf n last) ns ∷ entity-path ns path))) ⌝ }
 {
     let count = path.count;
     let tree = accumulator::put_path(
         LETTER_P,
         work,
-        84,
-        128,
+        LEAF_KEY_COLUMN,
+        SLOT_WIDTH,
         0,
         count,
         path.target,
         path.depth,
         out,
-        65,
+        R_WIDTH,
         constants,
     );
     accumulator::put_root(out, 0, count as u32, n as u32, last, EntityTree(tree));
@@ -406,14 +424,14 @@ fn put_entity(
     let tree = accumulator::put_path(
         LETTER_N,
         work,
-        84,
-        128,
+        LEAF_KEY_COLUMN,
+        SLOT_WIDTH,
         0,
         count,
         index,
         depth,
         out,
-        at + 57,
+        at + G_WIDTH,
         constants,
     );
     let entity = graph::entity_of(work, entry);
@@ -422,12 +440,20 @@ fn put_entity(
 
 // L of the version in a slot.
 fn put_version(work: &[u8], n: usize, slot: usize, out: &mut [u8], at: usize)
-    requires { ⌜ HasGraph (now work) n × (slot < n) × (at + 77 ≤ length (now out)) ⌝ }
+    requires { ⌜ HasGraph (now work) n × (slot < n) × (at + L-width ≤ length (now out)) ⌝ }
     ensures { λ _. ⌜ ((ns : List VersionNode) → Graphed (now (work .entry)) n ns → now (out .exit) ≡ written (now (out .entry)) at (leaf-string (version-at ns slot .leaf))) ⌝ }
 {
     let entity = graph::entity_of(work, slot);
     let time = graph::time_of(work, slot);
-    accumulator::put_leaf(out, at, entity, time, work, 128 * slot, 128 * slot + 32);
+    accumulator::put_leaf(
+        out,
+        at,
+        entity,
+        time,
+        work,
+        SLOT_WIDTH * slot,
+        SLOT_WIDTH * slot + OUTGOING_COLUMN,
+    );
 }
 
 // R, the strings P, G and the strings N.
@@ -442,7 +468,7 @@ fn put_walk(
     out: &mut [u8],
     constants: &[u32; 64],
 )
-    requires { ⌜ (PathFits (now work) path × EntityFits (now work) n entry index depth (length (now out)) (65 + 97 * path .depth)) × (now constants ≡ K) ⌝ }
+    requires { ⌜ (PathFits (now work) path × EntityFits (now work) n entry index depth (length (now out)) (R-width + branch-width * path .depth)) × (now constants ≡ K) ⌝ }
     ensures strings { λ _. ⌜ ((ns : List VersionNode) → Graphed (now (work .entry)) n ns → PathIs (now (work .entry)) ns path → now (out .exit) ≡ written (now (out .entry)) 0 (front-bytes (headerOf n last) ns path entry index depth)) ⌝ }
     ensures kept { λ _. ⌜ Kept (columns 84 124 ∷ []) (now (work .entry)) (now (work .exit)) ⌝ }
 {
@@ -454,7 +480,7 @@ fn put_walk(
         index,
         depth,
         out,
-        65 + 97 * path.depth,
+        R_WIDTH + BRANCH_WIDTH * path.depth,
         constants,
     );
 }
@@ -472,12 +498,18 @@ fn put_found(
     out: &mut [u8],
     constants: &[u32; 64],
 )
-    requires { ⌜ (PathFits (now work) path × EntityFits (now work) n entry index depth (length (now out)) (65 + 97 * path .depth) × (slot < n) × (199 + 97 * path .depth + 97 * depth ≤ length (now out))) × (now constants ≡ K) ⌝ }
+    requires { ⌜ (PathFits (now work) path × EntityFits (now work) n entry index depth (length (now out)) (R-width + branch-width * path .depth) × (slot < n) × (199 + 97 * path .depth + 97 * depth ≤ length (now out))) × (now constants ≡ K) ⌝ }
     ensures strings { λ _. ⌜ ((ns : List VersionNode) → Graphed (now (work .entry)) n ns → PathIs (now (work .entry)) ns path → FoundIs ns (node-at ns entry .entity) entry slot index depth → now (out .exit) ≡ written (now (out .entry)) 0 (front-bytes (headerOf n last) ns path entry index depth ++ leaf-string (version-at ns slot .leaf))) ⌝ }
     ensures kept { λ _. ⌜ Kept (columns 84 124 ∷ []) (now (work .entry)) (now (work .exit)) ⌝ }
 {
     put_walk(work, n, last, path, entry, index, depth, out, constants);
-    put_version(work, n, slot, out, 122 + 97 * path.depth + 97 * depth);
+    put_version(
+        work,
+        n,
+        slot,
+        out,
+        R_G_WIDTH + BRANCH_WIDTH * path.depth + BRANCH_WIDTH * depth,
+    );
 }
 
 // Writes the proof that was planned. After it, other leaves are stored than before.

@@ -14,7 +14,7 @@ use Rattle.model.specs.Graph.{VersionNode}
 use Rattle.model.specs.Trace.{letter-width}
 use Rattle.model.specs.Question as question
 use Rattle.model.specs.CheckRows.{shown-edges, shown-record, all-below, read-record, CheckedTrace, read-records, read-trace}
-use Rattle.graph.specs.Table.{absent, node-in, nodes-in}
+use Rattle.graph.specs.Table.{slot-width, absent, node-in, nodes-in}
 use Rattle.trace_reader.specs.declared.RecordRow.{RecordRow}
 use Rattle.trace_reader.specs.declared.RecordRow.the-variants.{Read, Refused}
 use Rattle.trace_reader.specs.declared.Step.{Step}
@@ -51,9 +51,9 @@ pub data Reads (way : question.Way) (i last : ℕ) (answer : Bytes) (at : ℕ) :
 pub record RecordPut (work work′ : Bytes) (i : ℕ) (n : VersionNode) (place : ℕ) : Type 0 where
   pub size : length work′ ≡ length work
   pub node : node-in work′ i ≡ n
-  pub placed : field 4 work′ (128 * i + 96) ≡ place
+  pub placed : field 4 work′ (slot-width * i + 96) ≡ place
   pub nodes : (j : ℕ) → (j ≡ i → ⊥) → node-in work′ j ≡ node-in work j
-  pub places : (j : ℕ) → (j ≡ i → ⊥) → field 4 work′ (128 * j + 96) ≡ field 4 work (128 * j + 96)
+  pub places : (j : ℕ) → (j ≡ i → ⊥) → field 4 work′ (slot-width * j + 96) ≡ field 4 work (slot-width * j + 96)
 
 -- the i-th record is in its slot, or the row that it meets
 pub data Steps (way : question.Way) (i last : ℕ) (answer : Bytes) (at : ℕ) (work work′ : Bytes) (place : ℕ) : Step → Type 0 where
@@ -64,7 +64,7 @@ pub data Steps (way : question.Way) (i last : ℕ) (answer : Bytes) (at : ℕ) (
 
 -- the place in the answer of the record in slot j, and those of the first n, of the trace that starts at byte `start`
 unfoldable pub place-in : Bytes → ℕ → ℕ → ℕ
-place-in work start j = start + field 4 work (128 * j + 96)
+place-in work start j = start + field 4 work (slot-width * j + 96)
 
 unfoldable pub places-in : Bytes → ℕ → ℕ → List ℕ
 places-in work start n = map (place-in work start) (counting 0 n)
@@ -85,7 +85,7 @@ pub record Counts (way : question.Way) (size : ℕ) (answer : Bytes) (at count :
   pub inside : at + 5 ≤ length answer
   pub some-record : 1 ≤ count
   pub few : count ≤ absent
-  pub room : 128 * count ≤ size
+  pub room : slot-width * count ≤ size
 
 -- it does, or the row that is met
 pub data HeaderIs (way : question.Way) (size : ℕ) (answer : Bytes) (at : ℕ) : Header → Type 0 where

@@ -4,6 +4,8 @@ use fields::get_u32;
 use fields::get_u64;
 use fields::put_u32;
 use graph::ABSENT;
+use graph::PLACE_COLUMN;
+use graph::SLOT_WIDTH;
 use graph::put_node;
 use model::LETTER_D;
 use model::LETTER_E;
@@ -14,6 +16,20 @@ use question::TimeKey;
 use question::Way;
 use question::entity_at;
 use question::trace_letter;
+use strings::D_KIND;
+use strings::D_SOURCE;
+use strings::D_WIDTH;
+use strings::E_WIDTH;
+use strings::RECORD_ENTITY;
+use strings::RECORD_TIME;
+use strings::T_PREVIOUS;
+use strings::T_WIDTH;
+use strings::TRACE_COUNT;
+use strings::TRACE_HEADER_WIDTH;
+use strings::V_KIND;
+use strings::V_PREVIOUS;
+use strings::V_SOURCE;
+use strings::V_WIDTH;
 ghost use mathlib.Core.Path.{_≡_};
 ghost use mathlib.Core.Bool.{true, _||_};
 ghost use mathlib.Core.List.{[]};
@@ -23,10 +39,10 @@ ghost use lib.ListN.{length, drop};
 ghost use Rattle.fields.specs.Fields.{field};
 ghost use Rattle.model.specs.Numbers.{above};
 ghost use Rattle.model.specs.Question.{forward};
-ghost use Rattle.model.specs.Trace.{letter-width};
+ghost use Rattle.model.specs.Trace.{trace-header-width, letter-width};
 ghost use Rattle.model.specs.CheckRows.{due, shown-edges, shown-record, all-below, read-records};
 ghost use Rattle.question.specs.Ways.{wayOf};
-ghost use Rattle.graph.specs.Table.{absent, version, NodePut};
+ghost use Rattle.graph.specs.Table.{slot-width, Slot, absent, version, NodePut};
 ghost use Rattle.trace_reader.specs.Records.{beforeOf, valuesRow, Reads, RecordPut, Steps, RecordsAre, HeaderIs, TraceIs};
 
 // ---- letters
@@ -68,15 +84,15 @@ fn width_of(letter: u8) -> usize
     ensures { λ r. ⌜ r ≡ letter-width letter ⌝ }
 {
     if letter == LETTER_V {
-        return 22;
+        return V_WIDTH;
     }
     if letter == LETTER_D {
-        return 18;
+        return D_WIDTH;
     }
     if letter == LETTER_T {
-        return 17;
+        return T_WIDTH;
     }
-    13
+    E_WIDTH
 }
 
 // ---- the rows of a record
@@ -96,16 +112,16 @@ fn positions_below(answer: &[u8], at: usize, letter: u8, i: usize) -> bool
     ensures { λ r. ⌜ r ≡ all-below i (shown-edges letter (drop at (now (answer .entry)))) ⌝ }
 {
     if letter == LETTER_V {
-        if below(answer, at + 14, i) {
-            return below(answer, at + 18, i);
+        if below(answer, at + V_PREVIOUS, i) {
+            return below(answer, at + V_SOURCE, i);
         }
         return false;
     }
     if letter == LETTER_D {
-        return below(answer, at + 14, i);
+        return below(answer, at + D_SOURCE, i);
     }
     if letter == LETTER_T {
-        return below(answer, at + 13, i);
+        return below(answer, at + T_PREVIOUS, i);
     }
     true
 }
@@ -126,7 +142,7 @@ fn values_row(answer: &[u8], at: usize, letter: u8, i: usize, last: TimeKey) -> 
     ensures { λ r. ⌜ r ≡ valuesRow i (last .0) (shown-record letter (drop at (now (answer .entry)))) ⌝ }
 {
     if positions_below(answer, at, letter, i) {
-        let time = TimeKey(get_u64(answer, at + 5));
+        let time = TimeKey(get_u64(answer, at + RECORD_TIME));
         if later(i, last, time) {
             return 0;
         }
@@ -184,32 +200,32 @@ fn put_version(
     source: u16,
     kind: u8,
 )
-    requires { ⌜ (at + 13 ≤ length (now answer)) × (128 * i + 128 ≤ length (now work)) ⌝ }
+    requires { ⌜ (at + 13 ≤ length (now answer)) × Slot (now work) i ⌝ }
     ensures { λ _. ⌜ NodePut (now (work .entry)) (now (work .exit)) i (version (field 4 (now (answer .entry)) (at + 1)) (field 8 (now (answer .entry)) (at + 5)) previous source kind) ⌝ }
 {
-    let entity = entity_at(answer, at + 1);
-    let time = TimeKey(get_u64(answer, at + 5));
+    let entity = entity_at(answer, at + RECORD_ENTITY);
+    let time = TimeKey(get_u64(answer, at + RECORD_TIME));
     put_node(work, i, entity, time, previous, source, kind);
 }
 
 // Puts what a record shows into slot i. Its positions are below i.
 fn put_shown(answer: &[u8], at: usize, letter: u8, work: &mut [u8], i: usize)
-    requires { ⌜ (at + letter-width letter ≤ length (now answer)) × (all-below i (shown-edges letter (drop at (now answer))) ≡ true) × (i ≤ absent) × (128 * i + 128 ≤ length (now work)) ⌝ }
+    requires { ⌜ (at + letter-width letter ≤ length (now answer)) × (all-below i (shown-edges letter (drop at (now answer))) ≡ true) × (i ≤ absent) × Slot (now work) i ⌝ }
     ensures { λ _. ⌜ NodePut (now (work .entry)) (now (work .exit)) i (shown-record letter (drop at (now (answer .entry)))) ⌝ }
 {
     if letter == LETTER_V {
-        let previous = start_at(answer, at + 14);
-        let source = start_at(answer, at + 18);
-        put_version(answer, at, work, i, previous, source, answer[at + 13]);
+        let previous = start_at(answer, at + V_PREVIOUS);
+        let source = start_at(answer, at + V_SOURCE);
+        put_version(answer, at, work, i, previous, source, answer[at + V_KIND]);
         return;
     }
     if letter == LETTER_D {
-        let source = start_at(answer, at + 14);
-        put_version(answer, at, work, i, ABSENT, source, answer[at + 13]);
+        let source = start_at(answer, at + D_SOURCE);
+        put_version(answer, at, work, i, ABSENT, source, answer[at + D_KIND]);
         return;
     }
     if letter == LETTER_T {
-        let previous = start_at(answer, at + 13);
+        let previous = start_at(answer, at + T_PREVIOUS);
         put_version(answer, at, work, i, previous, ABSENT, 0);
         return;
     }
@@ -218,11 +234,11 @@ fn put_shown(answer: &[u8], at: usize, letter: u8, work: &mut [u8], i: usize)
 
 // Puts what a record shows into slot i, and the record's place in the trace into a free column.
 fn put_record(answer: &[u8], at: usize, letter: u8, work: &mut [u8], i: usize, place: usize)
-    requires { ⌜ (at + letter-width letter ≤ length (now answer)) × (all-below i (shown-edges letter (drop at (now answer))) ≡ true) × (i ≤ absent) × (128 * i + 128 ≤ length (now work)) × (place < 2 ^ 32) ⌝ }
+    requires { ⌜ (at + letter-width letter ≤ length (now answer)) × (all-below i (shown-edges letter (drop at (now answer))) ≡ true) × (i ≤ absent) × Slot (now work) i × (place < 2 ^ 32) ⌝ }
     ensures { λ _. ⌜ RecordPut (now (work .entry)) (now (work .exit)) i (shown-record letter (drop at (now (answer .entry)))) place ⌝ }
 {
     put_shown(answer, at, letter, work, i);
-    put_u32(work, 128 * i + 96, place as u32);
+    put_u32(work, SLOT_WIDTH * i + PLACE_COLUMN, place as u32);
 }
 
 // A record's width and time, or the row that it meets.
@@ -241,14 +257,14 @@ fn record_step(
     work: &mut [u8],
     place: usize,
 ) -> Step
-    requires { ⌜ (at ≤ length (now answer)) × (i ≤ absent) × (128 * i + 128 ≤ length (now work)) × (place < 2 ^ 32) ⌝ }
+    requires { ⌜ (at ≤ length (now answer)) × (i ≤ absent) × Slot (now work) i × (place < 2 ^ 32) ⌝ }
     ensures { λ r. ⌜ Steps (wayOf way) i (last .0) (now (answer .entry)) at (now (work .entry)) (now (work .exit)) place r ⌝ }
 {
     match record_row(answer, at, way, i, last) {
         RecordRow::Refused { number } => Step::Refused { number: number },
         RecordRow::Read { letter } => {
             put_record(answer, at, letter, work, i, place);
-            let time = TimeKey(get_u64(answer, at + 5));
+            let time = TimeKey(get_u64(answer, at + RECORD_TIME));
             Step::Taken {
                 width: width_of(letter),
                 time: time,
@@ -267,10 +283,10 @@ enum Records {
 
 // Reads the records of the trace that starts at a place into the table.
 fn read_records(answer: &[u8], start: usize, way: Way, count: usize, work: &mut [u8]) -> Records
-    requires { ⌜ (start + 5 ≤ length (now answer)) × (count ≤ absent) × (128 * count ≤ length (now work)) ⌝ }
-    ensures { λ r. ⌜ RecordsAre (read-records (wayOf way) count [] [] (start + 5) (drop (start + 5) (now (answer .entry)))) (now (answer .entry)) start count (now (work .exit)) r ⌝ }
+    requires { ⌜ (start + trace-header-width ≤ length (now answer)) × (count ≤ absent) × (slot-width * count ≤ length (now work)) ⌝ }
+    ensures { λ r. ⌜ RecordsAre (read-records (wayOf way) count [] [] (start + trace-header-width) (drop (start + trace-header-width) (now (answer .entry)))) (now (answer .entry)) start count (now (work .exit)) r ⌝ }
 {
-    let mut at = start + 5;
+    let mut at = start + TRACE_HEADER_WIDTH;
     let mut last = TimeKey(0);
     let mut i: usize = 0;
     while i < count {
@@ -312,17 +328,17 @@ fn read_header(answer: &[u8], at: usize, way: Way, size: usize) -> Header
     if answer[at] != trace_letter(way) {
         return Header::Refused { number: 16 };
     }
-    if left < 5 {
+    if left < TRACE_HEADER_WIDTH {
         return Header::Refused { number: 15 };
     }
-    let count = get_u32(answer, at + 1) as usize;
+    let count = get_u32(answer, at + TRACE_COUNT) as usize;
     if count < 1 {
         return Header::Refused { number: 19 };
     }
     if 65535 < count {
         return Header::Refused { number: 19 };
     }
-    if size < 128 * count {
+    if size < SLOT_WIDTH * count {
         return Header::Short;
     }
     Header::Count { count: count }

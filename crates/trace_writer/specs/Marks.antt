@@ -11,7 +11,7 @@ use Rattle.model.specs.Numbers.{Bytes}
 use Rattle.model.specs.Question as question
 use Rattle.model.specs.Trace.{refers, trace-versions}
 use Rattle.marks.specs.Marks.{mark-column, is-marked}
-use Rattle.graph.specs.Table.{absent, previous-in, source-in, node-in, nodes-in, Ready, Columns, columns, Kept}
+use Rattle.graph.specs.Table.{slot-width, absent, previous-in, source-in, node-in, nodes-in, Ready, Columns, columns, Kept}
 
 abbrev pub rank-column : List Columns
 rank-column = columns 124 128 ∷ []
@@ -22,7 +22,7 @@ trace-columns = columns 81 82 ∷ columns 124 128 ∷ []
 
 -- what slot j says
 unfoldable pub rank-in : Bytes → ℕ → ℕ
-rank-in work j = field 4 work (128 * j + 124)
+rank-in work j = field 4 work (slot-width * j + 124)
 
 -- the marked ones of the first i slots
 unfoldable pub members : Bytes → ℕ → List ℕ

@@ -2,6 +2,8 @@
 use fields::get_u32;
 use fields::put_u32;
 use graph::ABSENT;
+use graph::RANK_COLUMN;
+use graph::SLOT_WIDTH;
 use graph::kind_of;
 use graph::previous_of;
 use graph::put_version;
@@ -17,17 +19,30 @@ use model::LETTER_T;
 use model::LETTER_V;
 use question::Way;
 use question::trace_letter;
+use strings::D_KIND;
+use strings::D_SOURCE;
+use strings::D_WIDTH;
+use strings::E_WIDTH;
+use strings::RECORD_ENTITY;
+use strings::T_PREVIOUS;
+use strings::T_WIDTH;
+use strings::TRACE_COUNT;
+use strings::TRACE_HEADER_WIDTH;
+use strings::V_KIND;
+use strings::V_PREVIOUS;
+use strings::V_SOURCE;
+use strings::V_WIDTH;
 ghost use mathlib.Core.Path.{_≡_};
 ghost use mathlib.Core.Bool.{cond};
 ghost use mathlib.Core.List.{[], _∷_};
 ghost use Prim.Native.Nat.{ℕ, _+_, _*_, _≤_, _<_};
 ghost use lib.ListN.{length};
-ghost use Rattle.fields.specs.Fields.{encode, field, written};
+ghost use Rattle.fields.specs.Fields.{encode, written};
 ghost use Rattle.model.specs.Graph.{temporal, dependency};
 ghost use Rattle.model.specs.Question.{backward, forward};
-ghost use Rattle.model.specs.Trace.{entry-letter, trace, trace-string};
+ghost use Rattle.model.specs.Trace.{trace-header-width, entry-letter, trace, trace-string};
 ghost use Rattle.question.specs.Ways.{wayOf};
-ghost use Rattle.graph.specs.Table.{absent, node-in, nodes-in, Ready, Kept};
+ghost use Rattle.graph.specs.Table.{slot-width, Slot, kind-in, absent, node-in, nodes-in, Ready, Kept};
 ghost use Rattle.graph.specs.Links.{name-string, Starts};
 ghost use Rattle.marks.specs.Marks.{is-marked, Stands};
 ghost use Rattle.trace_writer.specs.Marks.{trace-columns, rank-in, members, is-inside, starts-inside, Begun, Spread, MarksDone, RanksDone, Ranked, Prepared};
@@ -37,7 +52,7 @@ ghost use Rattle.trace_writer.specs.Texts.{ranked-edges, record-with, sl
 
 // The found version is in every trace from it, and none else so far.
 fn begin(work: &mut [u8], n: usize, v: usize)
-    requires { ⌜ (128 * n ≤ length (now work)) × (v < n) ⌝ }
+    requires { ⌜ (slot-width * n ≤ length (now work)) × (v < n) ⌝ }
     ensures { λ _. ⌜ Begun (now (work .entry)) (now (work .exit)) n v ⌝ }
 {
     clear_marks(work, n);
@@ -125,7 +140,7 @@ fn mark_trace(way: Way, work: &mut [u8], n: usize, v: usize)
 
 // How many records a slot gives.
 fn record_count(work: &[u8], i: usize) -> u32
-    requires { ⌜ 128 * i + 128 ≤ length (now work) ⌝ }
+    requires { ⌜ Slot (now work) i ⌝ }
     ensures { λ r. ⌜ r ≡ cond (is-marked (now (work .entry)) i) 1 0 ⌝ }
 {
     if marked(work, i) {
@@ -136,20 +151,20 @@ fn record_count(work: &[u8], i: usize) -> u32
 
 // The position of a slot's record: how many slots before it are marked.
 fn rank_of(work: &[u8], i: usize) -> u32
-    requires { ⌜ 128 * i + 128 ≤ length (now work) ⌝ }
+    requires { ⌜ Slot (now work) i ⌝ }
     ensures { λ r. ⌜ r ≡ rank-in (now (work .entry)) i ⌝ }
 {
-    get_u32(work, 128 * i + 124)
+    get_u32(work, SLOT_WIDTH * i + RANK_COLUMN)
 }
 
 fn put_ranks(work: &mut [u8], n: usize)
-    requires { ⌜ (128 * n ≤ length (now work)) × (n ≤ absent) ⌝ }
+    requires { ⌜ (slot-width * n ≤ length (now work)) × (n ≤ absent) ⌝ }
     ensures { λ _. ⌜ RanksDone (now (work .entry)) (now (work .exit)) n ⌝ }
 {
     let mut rank: u32 = 0;
     let mut i: usize = 0;
     while i < n {
-        put_u32(work, 128 * i + 124, rank);
+        put_u32(work, SLOT_WIDTH * i + RANK_COLUMN, rank);
         rank += record_count(work, i);
         i += 1;
     }
@@ -163,14 +178,14 @@ fn width_of(previous: bool, source: bool) -> usize
 {
     if previous {
         if source {
-            return 22;
+            return V_WIDTH;
         }
-        return 17;
+        return T_WIDTH;
     }
     if source {
-        return 18;
+        return D_WIDTH;
     }
-    13
+    E_WIDTH
 }
 
 // 0 if the slot's version is not in the trace.
@@ -191,7 +206,7 @@ fn trace_length(work: &[u8], n: usize) -> usize
     requires { ⌜ Ready (now work) n ⌝ }
     ensures { λ r. ⌜ TraceLength (now (work .entry)) n r ⌝ }
 {
-    let mut length: usize = 5;
+    let mut length: usize = TRACE_HEADER_WIDTH;
     let mut i: usize = 0;
     while i < n {
         length += record_width(work, i);
@@ -226,24 +241,24 @@ fn entry_letter(way: Way) -> u8
 
 // The beginning of every record: letter, entity, time.
 fn put_name(letter: u8, work: &[u8], i: usize, out: &mut [u8], at: usize)
-    requires { ⌜ (128 * i + 128 ≤ length (now work)) × (at + 13 ≤ length (now out)) ⌝ }
+    requires { ⌜ Slot (now work) i × (at + 13 ≤ length (now out)) ⌝ }
     ensures { λ _. ⌜ now (out .exit) ≡ written (now (out .entry)) at (letter ∷ name-string (node-in (now (work .entry)) i)) ⌝ }
 {
     out[at] = letter;
-    put_version(out, at + 1, work, i);
+    put_version(out, at + RECORD_ENTITY, work, i);
 }
 
 // The kind of a slot's dependency edge.
 fn put_kind(work: &[u8], i: usize, out: &mut [u8], at: usize)
-    requires { ⌜ (128 * i + 128 ≤ length (now work)) × (at + 1 ≤ length (now out)) ⌝ }
-    ensures { λ _. ⌜ now (out .exit) ≡ written (now (out .entry)) at (encode 1 (field 1 (now (work .entry)) (128 * i + 80))) ⌝ }
+    requires { ⌜ Slot (now work) i × (at + 1 ≤ length (now out)) ⌝ }
+    ensures { λ _. ⌜ now (out .exit) ≡ written (now (out .entry)) at (encode 1 (kind-in (now (work .entry)) i)) ⌝ }
 {
     out[at] = kind_of(work, i);
 }
 
 // The position of an edge's start.
 fn put_position(work: &[u8], start: u16, out: &mut [u8], at: usize)
-    requires { ⌜ (128 * start + 128 ≤ length (now work)) × (at + 4 ≤ length (now out)) ⌝ }
+    requires { ⌜ Slot (now work) start × (at + 4 ≤ length (now out)) ⌝ }
     ensures { λ _. ⌜ now (out .exit) ≡ written (now (out .entry)) at (encode 4 (rank-in (now (work .entry)) start)) ⌝ }
 {
     let from = start as usize;
@@ -252,32 +267,32 @@ fn put_position(work: &[u8], start: u16, out: &mut [u8], at: usize)
 
 // T: only the temporal edge starts inside.
 fn put_temporal(work: &[u8], i: usize, previous: u16, out: &mut [u8], at: usize)
-    requires { ⌜ (128 * i + 128 ≤ length (now work)) × (128 * previous + 128 ≤ length (now work)) × (at + 17 ≤ length (now out)) ⌝ }
+    requires { ⌜ Slot (now work) i × Slot (now work) previous × (at + 17 ≤ length (now out)) ⌝ }
     ensures { λ _. ⌜ RecordPut (now (work .entry)) i (temporal (rank-in (now (work .entry)) previous) ∷ []) (now (out .entry)) (now (out .exit)) at ⌝ }
 {
     put_name(LETTER_T, work, i, out, at);
-    put_position(work, previous, out, at + 13);
+    put_position(work, previous, out, at + T_PREVIOUS);
 }
 
 // D: only the dependency edge starts inside.
 fn put_dependency(work: &[u8], i: usize, source: u16, out: &mut [u8], at: usize)
-    requires { ⌜ (128 * i + 128 ≤ length (now work)) × (128 * source + 128 ≤ length (now work)) × (at + 18 ≤ length (now out)) ⌝ }
-    ensures { λ _. ⌜ RecordPut (now (work .entry)) i (dependency (field 1 (now (work .entry)) (128 * i + 80)) (rank-in (now (work .entry)) source) ∷ []) (now (out .entry)) (now (out .exit)) at ⌝ }
+    requires { ⌜ Slot (now work) i × Slot (now work) source × (at + 18 ≤ length (now out)) ⌝ }
+    ensures { λ _. ⌜ RecordPut (now (work .entry)) i (dependency (kind-in (now (work .entry)) i) (rank-in (now (work .entry)) source) ∷ []) (now (out .entry)) (now (out .exit)) at ⌝ }
 {
     put_name(LETTER_D, work, i, out, at);
-    put_kind(work, i, out, at + 13);
-    put_position(work, source, out, at + 14);
+    put_kind(work, i, out, at + D_KIND);
+    put_position(work, source, out, at + D_SOURCE);
 }
 
 // V: both do.
 fn put_both(work: &[u8], i: usize, previous: u16, source: u16, out: &mut [u8], at: usize)
-    requires { ⌜ (128 * i + 128 ≤ length (now work)) × (128 * previous + 128 ≤ length (now work)) × (128 * source + 128 ≤ length (now work)) × (at + 22 ≤ length (now out)) ⌝ }
-    ensures { λ _. ⌜ RecordPut (now (work .entry)) i (temporal (rank-in (now (work .entry)) previous) ∷ dependency (field 1 (now (work .entry)) (128 * i + 80)) (rank-in (now (work .entry)) source) ∷ []) (now (out .entry)) (now (out .exit)) at ⌝ }
+    requires { ⌜ Slot (now work) i × Slot (now work) previous × Slot (now work) source × (at + 22 ≤ length (now out)) ⌝ }
+    ensures { λ _. ⌜ RecordPut (now (work .entry)) i (temporal (rank-in (now (work .entry)) previous) ∷ dependency (kind-in (now (work .entry)) i) (rank-in (now (work .entry)) source) ∷ []) (now (out .entry)) (now (out .exit)) at ⌝ }
 {
     put_name(LETTER_V, work, i, out, at);
-    put_kind(work, i, out, at + 13);
-    put_position(work, previous, out, at + 14);
-    put_position(work, source, out, at + 18);
+    put_kind(work, i, out, at + V_KIND);
+    put_position(work, previous, out, at + V_PREVIOUS);
+    put_position(work, source, out, at + V_SOURCE);
 }
 
 // The record of a version in the trace; answers the place behind it.
@@ -290,17 +305,17 @@ fn put_marked(way: Way, work: &[u8], i: usize, out: &mut [u8], at: usize) -> usi
     if inside(work, previous) {
         if inside(work, source) {
             put_both(work, i, previous, source, out, at);
-            return at + 22;
+            return at + V_WIDTH;
         }
         put_temporal(work, i, previous, out, at);
-        return at + 17;
+        return at + T_WIDTH;
     }
     if inside(work, source) {
         put_dependency(work, i, source, out, at);
-        return at + 18;
+        return at + D_WIDTH;
     }
     put_name(entry_letter(way), work, i, out, at);
-    at + 13
+    at + E_WIDTH
 }
 
 // The record of a slot, if its version is in the trace.
@@ -319,9 +334,9 @@ fn put_record(way: Way, work: &[u8], i: usize, out: &mut [u8], at: usize) -> usi
 // All records, behind the header.
 fn put_records(way: Way, work: &[u8], n: usize, out: &mut [u8])
     requires { ⌜ Room (wayOf way) (now work) n (length (now out)) ⌝ }
-    ensures { λ _. ⌜ now (out .exit) ≡ written (now (out .entry)) 5 (slot-strings (wayOf way) (now (work .entry)) n) ⌝ }
+    ensures { λ _. ⌜ now (out .exit) ≡ written (now (out .entry)) trace-header-width (slot-strings (wayOf way) (now (work .entry)) n) ⌝ }
 {
-    let mut at: usize = 5;
+    let mut at: usize = TRACE_HEADER_WIDTH;
     let mut i: usize = 0;
     while i < n {
         at = put_record(way, work, i, out, at);
@@ -344,6 +359,6 @@ pub fn write(way: Way, work: &[u8], n: usize, out: &mut [u8])
     ensures { λ _. ⌜ ((v : ℕ) → Prepared (wayOf way) (now (work .entry)) n v → now (out .exit) ≡ written (now (out .entry)) 0 (trace-string (wayOf way) (trace (wayOf way) (nodes-in (now (work .entry)) n) v))) ⌝ }
 {
     out[0] = trace_letter(way);
-    put_u32(out, 1, count_of(work, n));
+    put_u32(out, TRACE_COUNT, count_of(work, n));
     put_records(way, work, n, out);
 }
