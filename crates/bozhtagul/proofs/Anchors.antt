@@ -1,12 +1,9 @@
 -- The hypotheses of demand 3's two clauses have instances, and each clause says something there: at Log K. Assumes nothing.
 use mathlib.Core.Path.{_≡_, refl, ap, _∙_}
 use mathlib.Core.Logic.{_⊎_}
-use Prim.Native.Nat.{ℕ, _*_, _≤_}
+use Prim.Native.Nat.{ℕ, _≤_}
 use native.Mathlib.Omega.{arith}
-use mathlib.Core.Bool.{Bool, true}
-use mathlib.Core.Option.{none}
 use lib.ListN.{length}
-use lib.Dec.{leb→le}
 use Rattle.model.specs.Result.{ok}
 use Rattle.model.specs.Numbers.{Bytes}
 use Rattle.model.specs.Graph.{graph}
@@ -17,7 +14,7 @@ use Rattle.model.proofs.Walk.{asked}
 use Rattle.model.proofs.LogK.{computed, log-bytes, K, K-sound}
 use Rattle.bozhtagul.specs.declared.Checked.{Checked}
 use Rattle.bozhtagul.specs.Results.{checked}
-use Rattle.bozhtagul.specs.Demand3.{Asked, Exact, Sound, Accepts, Complete}
+use Rattle.bozhtagul.specs.Demand3.{Asked, Exact, Sound, Complete}
 
 -- every known question, asked of K's commitment
 pub asked-of-K : (direction s t : ℕ) (q : Question) → question direction s t ≡ ok q → Asked direction s t (log-commitment K)

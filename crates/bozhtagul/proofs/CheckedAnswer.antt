@@ -1,5 +1,5 @@
 -- The check's verdict as plain numbers, and demand 3 of what they say. Assumes nothing.
-use mathlib.Core.Path.{_≡_, refl, sym, ap, ap₂, _∙_, subst}
+use mathlib.Core.Path.{_≡_, refl, sym, ap, ap₂, _∙_}
 use Prim.Native.Nat.{ℕ, _*_, _≤_}
 use native.Mathlib.Omega.{arith}
 use lib.Dec.{le→leb}
@@ -10,7 +10,7 @@ use Rattle.model.specs.Result.{Result, ok, refuse, _>>=_}
 use Rattle.model.specs.Graph.{graph}
 use Rattle.model.specs.Question.{Verdict, count}
 use Rattle.model.specs.Answer.{log-answer}
-use Rattle.model.specs.CheckRows.{enough, Accepted, run}
+use Rattle.model.specs.CheckRows.{enough, Accepted as Run, run}
 use Rattle.model.specs.Calls.{verdict-of, check-call, records-part, records-call}
 use Rattle.model.specs.Exact.{true-verdict}
 use Rattle.model.proofs.Outcomes.{bind-eq, need-yes}
@@ -20,9 +20,11 @@ use Rattle.model.proofs.Soundness.{soundness}
 use Rattle.model.proofs.CheckCall.{check-complete}
 use Rattle.model.proofs.RowNumbers.{number-above, run-numbered}
 use Rattle.checker.specs.declared.Checking.{Checking}
-use Rattle.checker.specs.declared.Checking.the-variants.{NoEntity, NotYet, Found, Refused}
+use Rattle.checker.specs.declared.Checking.the-variants.{Accepted, Refused}
+use Rattle.checker.specs.declared.Verdict as declared
+use Rattle.checker.specs.declared.Verdict.the-variants.{NoEntity, NotYet, Found}
 use Rattle.checker.specs.declared.Bounds.{Bounds}
-use Rattle.checker.specs.Runs.{checkingOf, boundsOf}
+use Rattle.checker.specs.Runs.{verdictOf, checkingOf, boundsOf}
 use Rattle.bozhtagul.specs.declared.Checked.{Checked}
 use Rattle.bozhtagul.specs.declared.Part.{Part}
 use Rattle.bozhtagul.specs.Results.{checked, bounds}
@@ -30,27 +32,37 @@ use Rattle.bozhtagul.specs.Demand3.{Asked, Exact, Sound, Complete}
 
 -- ---- plain numbers
 
-unfoldable pub verdict-numbers : Checking → Checked
+unfoldable pub verdict-numbers : declared.Verdict → Checked
 verdict-numbers NoEntity = record { number = 0; position = 0; verdict = 1; time = 0; count = 0 }
 verdict-numbers NotYet = record { number = 0; position = 0; verdict = 2; time = 0; count = 0 }
 verdict-numbers (Found t n) = record { number = 0; position = 0; verdict = 3; time = t .0; count = n }
-verdict-numbers (Refused n p) = record { number = n; position = p; verdict = 0; time = 0; count = 0 }
 
-by-result : (r : Result Verdict) → verdict-numbers (checkingOf r) ≡ checked r
-unfolding verdict-numbers checkingOf checked
-by-result (ok Verdict.no-entity) = refl
-by-result (ok Verdict.not-yet) = refl
-by-result (ok (Verdict.found t n)) = refl
-by-result (refuse n p) = refl
+by-verdict : (v : Verdict) → verdict-numbers (verdictOf v) ≡ checked (ok v)
+unfolding verdict-numbers verdictOf checked
+by-verdict Verdict.no-entity = refl
+by-verdict Verdict.not-yet = refl
+by-verdict (Verdict.found t n) = refl
 
-pub check-agrees : (r : Result Verdict) (a b : Checking) → a ≡ checkingOf r → a ≡ b → verdict-numbers b ≡ checked r
-check-agrees r a b e q = ap verdict-numbers (sym q ∙ e) ∙ by-result r
+pub verdict-agrees : (a b : declared.Verdict) → a ≡ b → (v : Verdict) → a ≡ verdictOf v → verdict-numbers b ≡ checked (ok v)
+verdict-agrees a b q v e = ap verdict-numbers (sym q ∙ e) ∙ by-verdict v
 
-pub bounds-agree : (m : Result Accepted) (b : Bounds) → b ≡ boundsOf m → _≡_ {A = Part} (record { start = b .start; length = b .length }) (bounds m)
+-- by what the check answered
+module _ (k : Checking) (r : Checked) where
+  pub accepted-agrees : (w : declared.Verdict) → ((v : Verdict) → w ≡ verdictOf v → r ≡ checked (ok v)) → k ≡ Accepted w → (m : Result Verdict) → k ≡ checkingOf m → r ≡ checked m
+  unfolding checkingOf
+  accepted-agrees w f q (ok v) e = f v cc
+  accepted-agrees w f q (refuse n p) e = absurd (let z : _≡_ {A = ℕ} 0 1 = cc in omega arith)
+
+  pub refused-agrees : (n p : ℕ) → r ≡ record { number = n; position = p; verdict = 0; time = 0; count = 0 } → k ≡ Refused n p → (m : Result Verdict) → k ≡ checkingOf m → r ≡ checked m
+  unfolding checkingOf checked
+  refused-agrees n p f q (ok v) e = absurd (let z : _≡_ {A = ℕ} 0 1 = cc in omega arith)
+  refused-agrees n p f q (refuse a b) e = f ∙ let same : (n ≡ a) × (p ≡ b) = (cc, cc) in ap₂ (λ (x y : ℕ). record { number = x; position = y; verdict = 0; time = 0; count = 0 }) (same .0) (same .1)
+
+pub bounds-agree : (m : Result Run) (b : Bounds) → b ≡ boundsOf m → _≡_ {A = Part} (record { start = b .start; length = b .length }) (bounds m)
 unfolding boundsOf bounds
 bounds-agree m b e = ap (λ (c : Bounds). record { start = c .start; length = c .length }) e ∙ go m
   where
-    go : (m : Result Accepted) → _≡_ {A = Part} (record { start = boundsOf m .start; length = boundsOf m .length }) (bounds m)
+    go : (m : Result Run) → _≡_ {A = Part} (record { start = boundsOf m .start; length = boundsOf m .length }) (bounds m)
     go (ok a) = refl
     go (refuse n p) = refl
 
@@ -61,7 +73,7 @@ unfolding records-call bounds records-part part
 part-agrees direction s t commitment x work r e =
     ap (λ (p : Part). part x (p .start) (p .length)) e ∙ go (run direction s t commitment x (length work))
   where
-    go : (m : Result Accepted) → part x (bounds m .start) (bounds m .length) ≡ records-part x m
+    go : (m : Result Run) → part x (bounds m .start) (bounds m .length) ≡ records-part x m
     go (ok a) = refl
     go (refuse n p) = refl
 
@@ -78,15 +90,15 @@ defined-accepted direction s t commitment x work a is room =
     ∙ bind-eq (enough (count v) (length work)) (λ _. ok v) tt (need-yes _ _ _ (le→leb (128 * count v) (length work) room))
 
 module _ (direction s t : ℕ) (commitment x work : Bytes) (r : Checked) (e : r ≡ checked (check-call direction s t commitment x work .result)) where
-  returned-by : (m : Result Accepted) → run direction s t commitment x (length work) ≡ m → r ≡ checked (verdict-of m)
+  returned-by : (m : Result Run) → run direction s t commitment x (length work) ≡ m → r ≡ checked (verdict-of m)
   unfolding check-call
-  returned-by m q = e ∙ ap (λ (m : Result Accepted). checked (verdict-of m)) q
+  returned-by m q = e ∙ ap (λ (m : Result Run). checked (verdict-of m)) q
 
   pub sound-of : Octets x → Sound direction s t commitment x work r
   unfolding checked verdict-of _>>=_
   sound-of o a h = go (run direction s t commitment x (length work)) refl
     where
-      go : (m : Result Accepted) → run direction s t commitment x (length work) ≡ m → Exact direction s t commitment x (length work) a r
+      go : (m : Result Run) → run direction s t commitment x (length work) ≡ m → Exact direction s t commitment x (length work) a r
       go (ok v) q =
           record {
             run-of = v;
@@ -108,21 +120,10 @@ module _ (direction s t : ℕ) (commitment x work : Bytes) (r : Checked) (e : r 
         returned = e ∙ ap checked (defined-accepted direction s t commitment x work a is room);
       }
 
-accepts : Checking → Type 0
-accepts NoEntity = Unit {0}
-accepts NotYet = Unit {0}
-accepts (Found t n) = Unit {0}
-accepts (Refused n p) = ⊥
-
-verdict-accepts : (v : Verdict) → accepts (checkingOf (ok v))
-unfolding accepts checkingOf
-verdict-accepts Verdict.no-entity = tt
-verdict-accepts Verdict.not-yet = tt
-verdict-accepts (Verdict.found t n) = tt
-
 -- where the check refuses, the answer was not the defined one with enough work area, whatever the call returns
 module _ (direction s t : ℕ) (commitment x work : Bytes) (k : Checking) (e : k ≡ checkingOf (check-call direction s t commitment x work .result)) where
   pub complete-unaccepted : (n p : ℕ) (r : Checked) → k ≡ Refused n p → Complete direction s t commitment x work r
-  unfolding accepts
+  unfolding checkingOf
   complete-unaccepted n p r q a is room =
-      absurd (subst accepts (sym (ap checkingOf (defined-accepted direction s t commitment x work a is room)) ∙ sym e ∙ q) (verdict-accepts (true-verdict (graph (a .records)) (a .q))))
+      let f = e ∙ ap checkingOf (defined-accepted direction s t commitment x work a is room) in
+      absurd (let z : _≡_ {A = ℕ} 0 1 = cc in omega arith)

@@ -1,8 +1,5 @@
 -- Laws that the proofs of the exported calls cite.
-mod Hashed
+mod Plain
 mod LogRead
-mod ListingText
-mod Committed
-mod GivenAnswer
 mod CheckedAnswer
 mod Anchors

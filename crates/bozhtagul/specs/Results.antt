@@ -1,6 +1,8 @@
 -- The results of the calls as plain numbers: number 0 where no row turns the call away. Assumes nothing.
 use Prim.Native.Nat.{ℕ}
-use Rattle.model.specs.Result.{Result, ok, refuse}
+use lib.ListN.{length}
+use Rattle.model.specs.Numbers.{Bytes}
+use Rattle.model.specs.Result.{Result, ok, refuse, _>>=_}
 use Rattle.model.specs.Question.{Verdict}
 use Rattle.model.specs.CheckRows.{Accepted}
 use Rattle.bozhtagul.specs.declared.Outcome.{Outcome}
@@ -16,6 +18,13 @@ outcome (refuse n p) = record { number = n; position = p }
 unfoldable pub written : Result ℕ → Written
 written (ok n) = record { number = 0; position = 0; length = n }
 written (refuse n p) = record { number = n; position = p; length = 0 }
+
+-- of a call that writes, by the bytes to write: their number, or nothing
+unfoldable pub written-of : Result Bytes → Written
+written-of m = written (m >>= λ y. ok (length y))
+
+unfoldable pub outcome-of : Result Bytes → Outcome
+outcome-of m = outcome (m >>= λ _. ok tt)
 
 -- the verdict: 1 no entity, 2 not yet, 3 found; 0 where the check refuses
 unfoldable pub checked : Result Verdict → Checked

@@ -1,19 +1,23 @@
 // The public calls as the outside sees them: plain numbers and byte slices.
 use checker::Checking;
-use host::Answering;
-use host::Committing;
-use listing::Listed;
+use checker::Verdict;
 use log::Reading;
+use outcome::Writing;
 use question::EntityKey;
 use question::TimeKey;
-use sha256::Hashing;
+use strings::DIGEST_WIDTH;
 ghost use mathlib.Core.Path.{_≡_};
 ghost use Prim.Native.Nat.{_+_, _≤_};
 ghost use lib.ListN.{length};
 ghost use Rattle.fields.specs.Fields.{part};
+ghost use Rattle.model.specs.Result.{Result, ok};
+ghost use Rattle.model.specs.Numbers.{Bytes};
 ghost use Rattle.model.specs.CheckRows.{run};
 ghost use Rattle.model.specs.Calls.{hash-call, log-call, listing-call, commitment-call, answer-call, check-call, records-call};
-ghost use Rattle.bozhtagul.specs.Results.{outcome, written, checked, bounds};
+ghost use Rattle.model.specs.Question as model;
+ghost use Rattle.outcome.specs.Outcomes.{given};
+ghost use Rattle.checker.specs.Runs.{verdictOf};
+ghost use Rattle.bozhtagul.specs.Results.{outcome, written, outcome-of, written-of, checked, bounds};
 ghost use Rattle.bozhtagul.specs.Demand3.{Sound, Complete};
 
 // The number of the row that turned a call away, or 0, and its position.
@@ -79,16 +83,49 @@ fn row_or_verdict(number: u64, position: u64, verdict: u64, time: u64, count: u6
     }
 }
 
+// What a call that writes answers, as plain numbers: with the length, ...
+fn as_written(writing: Writing) -> Written
+    ensures { λ r. ⌜ ((m : Result Bytes) → writing ≡ given m → r ≡ written-of m) ⌝ }
+{
+    match writing {
+        Writing::Written { length } => row_or_length(0, 0, length as u64),
+        Writing::Refused { number, position } => row_or_length(number, position as u64, 0),
+    }
+}
+
+// ... and without it.
+fn as_outcome(writing: Writing) -> Outcome
+    ensures { λ r. ⌜ ((m : Result Bytes) → writing ≡ given m → r ≡ outcome-of m) ⌝ }
+{
+    match writing {
+        Writing::Written { length } => row(0, 0),
+        Writing::Refused { number, position } => row(number, position as u64),
+    }
+}
+
+// A verdict as plain numbers.
+fn as_checked(verdict: Verdict) -> Checked
+    ensures { λ r. ⌜ ((v : model.Verdict) → verdict ≡ verdictOf v → r ≡ checked (ok v)) ⌝ }
+{
+    match verdict {
+        Verdict::NoEntity => row_or_verdict(0, 0, 1, 0, 0),
+        Verdict::NotYet => row_or_verdict(0, 0, 2, 0, 0),
+        Verdict::Found { time, count } => row_or_verdict(0, 0, 3, time.0, count as u64),
+    }
+}
+
 // Writes the SHA-256 of a message to the front of `out`.
 #[no_mangle]
 pub extern "C" fn bozhtagul_hash(message: &[u8], out: &mut [u8]) -> Outcome
     ensures result { λ r. ⌜ r ≡ outcome (hash-call (now (message .entry)) (now (out .entry)) .result) ⌝ }
     ensures output { λ _. ⌜ now (out .exit) ≡ hash-call (now (message .entry)) (now (out .entry)) .output ⌝ }
 {
-    match sha256::hash(message, out) {
-        Hashing::Written => row(0, 0),
-        Hashing::Refused { number, position } => row(number, position),
+    if out.len() < DIGEST_WIDTH {
+        return row(13, 0);
     }
+    let digest = sha256::hash(message);
+    fields::copy(out, 0, &digest, 0, DIGEST_WIDTH);
+    row(0, 0)
 }
 
 // Reads a log; its length is its number of records.
@@ -108,10 +145,7 @@ pub extern "C" fn bozhtagul_listing(input: &[u8], out: &mut [u8]) -> Written
     ensures result { λ r. ⌜ r ≡ written (listing-call (now (input .entry)) (now (out .entry)) .result) ⌝ }
     ensures output { λ _. ⌜ now (out .exit) ≡ listing-call (now (input .entry)) (now (out .entry)) .output ⌝ }
 {
-    match listing::list(input, out) {
-        Listed::Written { length } => row_or_length(0, 0, length as u64),
-        Listed::Refused { number, position } => row_or_length(number, position as u64, 0),
-    }
+    as_written(listing::list(input, out))
 }
 
 // Writes a log's commitment to the front of `out`. The work area takes 128 bytes a record and is zero afterwards.
@@ -121,10 +155,7 @@ pub extern "C" fn bozhtagul_commitment(log: &[u8], work: &mut [u8], out: &mut [u
     ensures output { λ _. ⌜ now (out .exit) ≡ commitment-call (now (log .entry)) (now (out .entry)) (now (work .entry)) .output ⌝ }
     ensures cleared { λ _. ⌜ now (work .exit) ≡ commitment-call (now (log .entry)) (now (out .entry)) (now (work .entry)) .work ⌝ }
 {
-    match host::commitment(log, work, out) {
-        Committing::Written => row(0, 0),
-        Committing::Refused { number, position } => row(number, position as u64),
-    }
+    as_outcome(host::commitment(log, work, out))
 }
 
 // Writes the answer to a question to the front of `out`. The work area takes 128 bytes a record and is zero afterwards.
@@ -142,10 +173,7 @@ pub extern "C" fn bozhtagul_answer(
     ensures cleared { λ _. ⌜ now (work .exit) ≡ answer-call direction entity time (now (log .entry)) (now (out .entry)) (now (work .entry)) .work ⌝ }
 {
     let s = EntityKey(entity as u64);
-    match host::answer(direction, s, TimeKey(time), log, work, out) {
-        Answering::Written { length } => row_or_length(0, 0, length as u64),
-        Answering::Refused { number, position } => row_or_length(number, position as u64, 0),
-    }
+    as_written(host::answer(direction, s, TimeKey(time), log, work, out))
 }
 
 // Checks an answer, which may be any bytes, against a commitment. The work area takes 128 bytes for each record of the answer's trace and
@@ -166,9 +194,7 @@ pub extern "C" fn bozhtagul_check(
 {
     let s = EntityKey(entity as u64);
     match checker::check(direction, s, TimeKey(time), commitment, answer, work) {
-        Checking::NoEntity => row_or_verdict(0, 0, 1, 0, 0),
-        Checking::NotYet => row_or_verdict(0, 0, 2, 0, 0),
-        Checking::Found { time: found, count } => row_or_verdict(0, 0, 3, found.0, count as u64),
+        Checking::Accepted { verdict } => as_checked(verdict),
         Checking::Refused { number, position } => row_or_verdict(number, position as u64, 0, 0, 0),
     }
 }

@@ -59,9 +59,9 @@ digests-F way work work′ n e d =
 
 -- ---- places
 
-pub position-is : (work : Bytes) (start i x : ℕ) → x ≡ field 4 work (128 * i + 96) → start + x ≡ place-in work start i
+pub record-place-is : (work : Bytes) (start i x : ℕ) → x ≡ field 4 work (128 * i + 96) → start + x ≡ place-in work start i
 unfolding place-in
-position-is work start i x e = ap (λ (k : ℕ). start + k) e
+record-place-is work start i x e = ap (λ (k : ℕ). start + k) e
 
 place-at : (work : Bytes) (start n i : ℕ) → i < n → getD (places-in work start n) i 0 ≡ place-in work start i
 unfolding places-in

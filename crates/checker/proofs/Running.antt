@@ -11,14 +11,17 @@ use Rattle.model.specs.Numbers.{Bytes}
 use Rattle.model.specs.Result.{Result, ok, refuse, _>>=_, need}
 use Rattle.model.specs.Accumulator.{Leaf}
 use Rattle.model.specs.Question as question
-use Rattle.model.specs.Question.{at-or-before, backward, forward, Part, version-only, trace-of, Question, question, SearchEnd, Verdict}
+use Rattle.model.specs.Question.{at-or-before, Question, question, SearchEnd, Verdict}
 use Rattle.model.specs.CheckRows.{leaf-in, CheckedProof, stopped, check-proof, read-trace, trace-rows, Accepted, end-here, with-trace, check-end, run-under, run}
 use Rattle.model.specs.Calls.{cleared, verdict-of, records-part, records-call}
-use Rattle.model.proofs.Outcomes.{bind-eq, bind-refused, ok-inj}
-use Rattle.model.proofs.Asking.{Known, known-by, unknown}
+use Rattle.model.proofs.Outcomes.{bind-eq, bind-refused}
 use Rattle.model.proofs.TraceReading as reading
 use Rattle.question.specs.declared.TimeKey.{TimeKey}
 use Rattle.question.specs.declared.Way.{Way}
+use Rattle.question.specs.declared.Part.{Part}
+use Rattle.question.specs.declared.Part.the-variants.{VersionOnly, Trace as TraceOf}
+use Rattle.question.specs.Ways.{wayOf}
+use Rattle.question.specs.Directions.{partOf, asking}
 use Rattle.graph.specs.Table.{nodes-in}
 use Rattle.graph.proofs.Nodes.{length-nodes}
 use Rattle.proof_reader.specs.declared.Proof.{Proof}
@@ -29,13 +32,15 @@ use Rattle.proof_reader.proofs.Ends.{no-entity-is, not-yet-is, found-is, refuse
 use Rattle.trace_reader.specs.declared.Trace.{Trace}
 use Rattle.trace_reader.specs.declared.Trace.the-variants.{Read, Refused as TraceRefused}
 use Rattle.trace_reader.specs.Records.{TraceIs, trace-read, trace-refused}
-use Rattle.checker.specs.declared.Checking.{Checking}
-use Rattle.checker.specs.declared.Checking.the-variants.{NoEntity, NotYet, Found, Refused}
+use Rattle.checker.specs.declared.Checking.the-variants as checking
+use Rattle.checker.specs.declared.Checking.the-variants.{Refused}
+use Rattle.checker.specs.declared.Verdict as declared
+use Rattle.checker.specs.declared.Verdict.the-variants.{NoEntity, NotYet, Found}
 use Rattle.checker.specs.declared.Bounds.{Bounds}
 use Rattle.checker.specs.declared.Run.{Run}
 use Rattle.checker.specs.declared.Rows.{Rows}
 use Rattle.checker.specs.declared.Rows.the-variants.{Passed, Refused as Turned}
-use Rattle.checker.specs.Runs.{checkingOf, boundsOf, RunIs, bareRun, leaf-in-answer, found-proof, rowsOf, trace-in, Traced}
+use Rattle.checker.specs.Runs.{verdictOf, checkingOf, boundsOf, RunIs, bareRun, EndsHere, leaf-in-answer, found-proof, rowsOf, trace-in, TraceInTable}
 
 -- ---- bounds
 
@@ -55,63 +60,56 @@ same-bounds m n e = sym (bounds-without m) ∙ ap boundsOf e ∙ bounds-without 
 module _ (answer : Bytes) (m : Result Accepted) (r : Run) where
   pub bare-refused : (n p : ℕ) → m ≡ refuse n p → r ≡ bareRun (Refused n p) → RunIs answer m r
   unfolding bareRun checkingOf verdict-of boundsOf _>>=_
-  bare-refused n p e q = rw (e, q) (record { verdict-is = refl; bounds-are = refl; inside = omega arith })
+  bare-refused n p e q = rw (e, q) (record { checking-is = refl; bounds-are = refl; inside = omega arith })
 
   bare-accepted : (v : Verdict) (opened : List Bytes)
       → m ≡ ok (record { verdict = v; opened = opened; records = []; records-start = 0; records-length = 0 }) → r ≡ bareRun (checkingOf (ok v)) → RunIs answer m r
   unfolding bareRun verdict-of boundsOf _>>=_
-  bare-accepted v opened e q = rw (e, q) (record { verdict-is = refl; bounds-are = refl; inside = omega arith })
+  bare-accepted v opened e q = rw (e, q) (record { checking-is = refl; bounds-are = refl; inside = omega arith })
 
 -- no trace: the answer ends where the proof does
-module _ (answer : Bytes) (at : ℕ) (r : Run) (verdict : Checking) where
-  pub bytes-behind : at < length answer → r ≡ bareRun (Refused 18 at)
-      → (e : SearchEnd Leaf) (v : Verdict) → verdict ≡ checkingOf (ok v) → RunIs answer (end-here v (stopped e at (drop at answer))) r
+module _ (answer : Bytes) (at : ℕ) (r : Run) (verdict : declared.Verdict) where
+  pub bytes-behind : at < length answer → r ≡ bareRun (Refused 18 at) → EndsHere answer at verdict r
   unfolding end-here need _>>=_
   bytes-behind h q e v d =
       bare-refused answer (end-here v (stopped e at (drop at answer))) r 18 at
       (simp (ne-eqb (length (drop at answer)) 0 (λ z. omega (arith, length-drop at answer, z)))) q
 
-  pub nothing-behind : length answer ≤ at → r ≡ bareRun verdict
-      → (e : SearchEnd Leaf) (v : Verdict) → verdict ≡ checkingOf (ok v) → RunIs answer (end-here v (stopped e at (drop at answer))) r
-  unfolding end-here need _>>=_
+  pub nothing-behind : length answer ≤ at → r ≡ bareRun (checking.Accepted verdict) → EndsHere answer at verdict r
+  unfolding end-here need checkingOf _>>=_
   nothing-behind h q e v d =
       bare-accepted answer (end-here v (stopped e at (drop at answer))) r v []
-      (simp (eq-eqb (length (drop at answer)) 0 (omega (arith, length-drop at answer)))) (q ∙ ap bareRun d)
+      (simp (eq-eqb (length (drop at answer)) 0 (omega (arith, length-drop at answer)))) (q ∙ ap (λ (x : declared.Verdict). bareRun (checking.Accepted x)) d)
 
 -- ---- the trace in the table
 
-module _ (m : Result (Unit {0})) (r : Rows) (e : r ≡ rowsOf m) where
-  passed : r ≡ Passed → m ≡ ok tt
-  unfolding rowsOf
-  passed q = go m e
-    where
-      go : (m : Result (Unit {0})) → r ≡ rowsOf m → m ≡ ok tt
-      go (ok u) h = refl
-      go (refuse n p) h = absurd (let z : _≡_ {A = ℕ} 0 1 = cc in omega arith)
+abbrev resultOf : Rows → Result (Unit {0})
+resultOf Passed = ok tt
+resultOf (Turned n p) = refuse n p
 
-  turned : (n p : ℕ) → r ≡ Turned n p → m ≡ refuse n p
-  unfolding rowsOf
-  turned n p q = go m e
-    where
-      go : (m : Result (Unit {0})) → r ≡ rowsOf m → m ≡ refuse n p
-      go (ok u) h = absurd (let z : _≡_ {A = ℕ} 0 1 = cc in omega arith)
-      go (refuse x y) h = cc
+rows-told : (m : Result (Unit {0})) (r : Rows) → r ≡ rowsOf m → m ≡ resultOf r
+unfolding rowsOf
+rows-told m r e = go m ∙ ap resultOf (sym e)
+  where
+    go : (m : Result (Unit {0})) → m ≡ resultOf (rowsOf m)
+    go (ok u) = refl
+    go (refuse n p) = refl
 
 module _ (way : question.Way) (answer work : Bytes) (leaf at n end : ℕ) (rows : Rows)
     (e : rows ≡ rowsOf (trace-rows way (leaf-in-answer answer leaf) (trace-in answer work at n end))) where
   pub rows-refused : (x y : ℕ) (r : Run) → rows ≡ Turned x y → r ≡ bareRun (Refused x y)
-      → (size : ℕ) → Traced way size answer at work n end → RunIs answer (with-trace way size (found-proof answer leaf at) (leaf-in-answer answer leaf)) r
+      → (size : ℕ) → TraceInTable way size answer at work n end → RunIs answer (with-trace way size (found-proof answer leaf at) (leaf-in-answer answer leaf)) r
   unfolding with-trace found-proof
   rows-refused x y r q b size t =
       bare-refused answer (with-trace way size (found-proof answer leaf at) (leaf-in-answer answer leaf)) r x y
       (bind-eq (read-trace way size at (drop at answer)) _ (trace-in answer work at n end) (t .is)
-      ∙ bind-refused (trace-rows way (leaf-in-answer answer leaf) (trace-in answer work at n end)) _ x y (turned _ rows e x y q)) b
+      ∙ bind-refused (trace-rows way (leaf-in-answer answer leaf) (trace-in answer work at n end)) _ x y (rows-told _ rows e ∙ ap resultOf q)) b
 
   pub rows-passed : (time : TimeKey) → rows ≡ Passed → time .0 ≡ leaf-in (take 77 (drop leaf answer)) .time → at + 5 ≤ length answer
-      → (size : ℕ) → Traced way size answer at work n end
+      → (size : ℕ) → TraceInTable way size answer at work n end
       → RunIs answer (with-trace way size (found-proof answer leaf at) (leaf-in-answer answer leaf))
-      (record { verdict = Found time n; start = at + 5; length = length answer - (at + 5) })
-  unfolding with-trace found-proof trace-in verdict-of boundsOf checkingOf leaf-in-answer _>>=_
+      (record { checking = checking.Accepted (Found time n); start = at + 5; length = length answer - (at + 5) })
+  unfolding with-trace found-proof trace-in verdict-of boundsOf checkingOf verdictOf leaf-in-answer _>>=_
   rows-passed time q k h size t =
       let l = leaf-in-answer answer leaf in
       let d : length (drop at answer) ≡ length answer - at = length-drop at answer in
@@ -124,9 +122,9 @@ module _ (way : question.Way) (answer work : Bytes) (leaf at n end : ℕ) (rows 
         records-length = length (drop at answer) - 5;
       }) =
       bind-eq (read-trace way size at (drop at answer)) _ (trace-in answer work at n end) (t .is)
-      ∙ bind-eq (trace-rows way l (trace-in answer work at n end)) _ tt (passed _ rows e q) in
+      ∙ bind-eq (trace-rows way l (trace-in answer work at n end)) _ tt (rows-told _ rows e ∙ ap resultOf q) in
       record {
-        verdict-is = ap₂ (λ (a b : ℕ). Found (record { 0 = a }) b) k (sym (length-nodes work n)) ∙ sym (ap (λ (m : Result Accepted). checkingOf (verdict-of m)) w);
+        checking-is = ap₂ (λ (a b : ℕ). checking.Accepted (Found (record { 0 = a }) b)) k (sym (length-nodes work n)) ∙ sym (ap (λ (m : Result Accepted). checkingOf (verdict-of m)) w);
         bounds-are = ap (bounds (at + 5)) (let x : length answer - (at + 5) ≡ length (drop at answer) - 5 = omega arith in x) ∙ sym (ap boundsOf w);
         inside = omega arith;
       }
@@ -137,11 +135,11 @@ module _ (way : question.Way) (size : ℕ) (answer : Bytes) (at : ℕ) (work : B
   trace-is : (x : Trace) → r ≡ x → TraceIs way size answer at work x
   trace-is x q = subst (λ (y : Trace). TraceIs way size answer at work y) q T
 
-  pub trace-told : (n end : ℕ) → r ≡ Read n end → Octets answer → size ≤ length work → Traced way size answer at work n end
+  pub trace-told : (n end : ℕ) → r ≡ Read n end → Octets answer → size ≤ length work → TraceInTable way size answer at work n end
   unfolding trace-in
   trace-told n end q o s = go (trace-is (Read n end) q)
     where
-      go : TraceIs way size answer at work (Read n end) → Traced way size answer at work n end
+      go : TraceIs way size answer at work (Read n end) → TraceInTable way size answer at work n end
       go (trace-read _ _ c t) =
           record {
             is = t .is;
@@ -166,60 +164,35 @@ module _ (way : question.Way) (size : ℕ) (answer : Bytes) (at : ℕ) (work : B
       go : TraceIs way size answer at work (TraceRefused n p) → read-trace way size at (drop at answer) ≡ refuse n p
       go (trace-refused _ _ e) = e
 
--- ---- by the direction
+-- ---- by the part asked
 
--- the part that a direction asks for
-module _ (s t : ℕ) (q : Question) where
-  part-0 : question 0 s t ≡ ok q → q .part ≡ version-only
-  unfolding question
-  part-0 e = sym (ap (λ (x : Question). x .part) (ok-inj e))
-
-  part-1 : question 1 s t ≡ ok q → q .part ≡ trace-of backward
-  unfolding question
-  part-1 e = sym (ap (λ (x : Question). x .part) (ok-inj e))
-
-  part-2 : question 2 s t ≡ ok q → q .part ≡ trace-of forward
-  unfolding question
-  part-2 e = sym (ap (λ (x : Question). x .part) (ok-inj e))
-
-module _ (answer : Bytes) (leaf at size direction : ℕ) (r : Run) (s t : ℕ) (q : Question) (known : question direction s t ≡ ok q) where
+module _ (answer : Bytes) (leaf at size : ℕ) (part : Part) (r : Run) where
   abbrev here : Part → Result Accepted
-  here p = check-end p size (found-proof answer leaf at) (SearchEnd.found (leaf-in-answer answer leaf))
+  here p = check-end (partOf p) size (found-proof answer leaf at) (SearchEnd.found (leaf-in-answer answer leaf))
 
-  asked : (d : ℕ) → direction ≡ d → question d s t ≡ ok q
-  asked d e = subst (λ (x : ℕ). question x s t ≡ ok q) e known
-
-  pub found-only : (time : TimeKey) → direction ≡ 0 → time .0 ≡ leaf-in (take 77 (drop leaf answer)) .time
-      → ((e : SearchEnd Leaf) (v : Verdict) → Found time 0 ≡ checkingOf (ok v) → RunIs answer (end-here v (stopped e at (drop at answer))) r)
-      → RunIs answer (here (q .part)) r
-  unfolding check-end found-proof checkingOf leaf-in-answer
+  pub found-only : (time : TimeKey) → part ≡ VersionOnly → time .0 ≡ leaf-in (take 77 (drop leaf answer)) .time → EndsHere answer at (Found time 0) r
+      → RunIs answer (here part) r
+  unfolding check-end partOf found-proof verdictOf leaf-in-answer
   found-only time e k f =
-      subst (λ (p : Part). RunIs answer (here p) r) (sym (part-0 s t q (asked 0 e)))
+      subst (λ (p : Part). RunIs answer (here p) r) (sym e)
       (f (SearchEnd.found (leaf-in-answer answer leaf)) (Verdict.found (leaf-in-answer answer leaf .time) 0) (ap (λ (x : ℕ). Found (record { 0 = x }) 0) k))
 
-  pub found-back : direction ≡ 1 → RunIs answer (with-trace backward size (found-proof answer leaf at) (leaf-in-answer answer leaf)) r → RunIs answer (here (q .part)) r
-  unfolding check-end
-  found-back e f = subst (λ (p : Part). RunIs answer (here p) r) (sym (part-1 s t q (asked 1 e))) f
-
-  pub found-fore : direction ≤ 2 → (direction ≡ 0 → ⊥) → (direction ≡ 1 → ⊥)
-      → RunIs answer (with-trace forward size (found-proof answer leaf at) (leaf-in-answer answer leaf)) r → RunIs answer (here (q .part)) r
-  unfolding check-end
-  found-fore h a b f = subst (λ (p : Part). RunIs answer (here p) r) (sym (part-2 s t q (asked 2 (omega arith)))) f
+  pub found-trace : (way : Way) → part ≡ TraceOf way → RunIs answer (with-trace (wayOf way) size (found-proof answer leaf at) (leaf-in-answer answer leaf)) r
+      → RunIs answer (here part) r
+  unfolding check-end partOf
+  found-trace way e f = subst (λ (p : Part). RunIs answer (here p) r) (sym e) f
 
 -- ---- the whole run
 
 -- its proof, as it was read
-module _ (direction s t : ℕ) (few : direction ≤ 2) (commitment answer : Bytes) (p : Proof)
+module _ (part : Part) (s t : ℕ) (commitment answer : Bytes) (p : Proof)
     (P : (q : Question) → q .relation ≡ at-or-before → q .entity ≡ s → q .time ≡ t → ProofIs answer (check-proof 0x52 q commitment 0 (drop 0 answer)) p) where
-  k : Known direction s t
-  k = known-by direction s t few
-
   m : Result CheckedProof
-  m = check-proof 0x52 (k .q) commitment 0 answer
+  m = check-proof 0x52 (asking part s t) commitment 0 answer
 
   M : ProofIs answer m p
   unfolding m
-  M = P (k .q) (k .relation-is) (k .entity-is) (k .time-is)
+  M = P (asking part s t) refl refl refl
 
   pub leaf-inside : (leaf at : ℕ) → p ≡ ToLeaf leaf at → (leaf + 77 ≤ length answer) × (at ≤ length answer)
   leaf-inside leaf at e = let g = found-is answer m p M leaf at e in let i = g .1 .inside in (omega (arith, g .0), i)
@@ -232,53 +205,54 @@ module _ (direction s t : ℕ) (few : direction ≤ 2) (commitment answer : Byte
 
   module _ (size : ℕ) (r : Run) (wide : length commitment ≡ 32) where
     abbrev this-run : Result Accepted
-    this-run = run direction s t commitment answer size
+    this-run = run-under 0x52 (asking part s t) commitment answer size
 
-    by-proof : this-run ≡ (m >>= λ (p : CheckedProof). check-end (k .q .part) size p (p .end))
-    unfolding run run-under m need _>>=_
-    by-proof = bind-eq (question direction s t) _ (k .q) (k .is) ∙ simp (eq-eqb (length commitment) 32 wide)
+    by-proof : this-run ≡ (m >>= λ (p : CheckedProof). check-end (partOf part) size p (p .end))
+    unfolding run-under m need _>>=_
+    by-proof = simp (eq-eqb (length commitment) 32 wide)
 
     pub proof-refused : (x y : ℕ) → p ≡ Unread x y → r ≡ bareRun (Refused x y) → RunIs answer this-run r
     proof-refused x y e q = bare-refused answer this-run r x y (by-proof ∙ bind-refused m _ x y (refused-is answer m p M x y e)) q
 
     -- what follows a proof depends on its end alone
-    at-end : (e : SearchEnd Leaf) (at : ℕ) → Gives answer m e at → RunIs answer (check-end (k .q .part) size (stopped e at (drop at answer)) e) r → RunIs answer this-run r
+    at-end : (e : SearchEnd Leaf) (at : ℕ) → Gives answer m e at → RunIs answer (check-end (partOf part) size (stopped e at (drop at answer)) e) r → RunIs answer this-run r
     at-end e at g i =
         record {
-          verdict-is = i .verdict-is ∙ ap checkingOf (sym (end-verdict answer m e at g (k .q .part) size) ∙ sym (ap verdict-of by-proof));
-          bounds-are = i .bounds-are ∙ sym (same-bounds _ _ (run-without answer m e at g (k .q .part) size)) ∙ sym (ap boundsOf by-proof);
+          checking-is = i .checking-is ∙ ap checkingOf (sym (end-verdict answer m e at g (partOf part) size) ∙ sym (ap verdict-of by-proof));
+          bounds-are = i .bounds-are ∙ sym (same-bounds _ _ (run-without answer m e at g (partOf part) size)) ∙ sym (ap boundsOf by-proof);
           inside = i .inside;
         }
 
-    pub to-no-entity : (at : ℕ) → p ≡ ToNoEntity at
-        → ((e : SearchEnd Leaf) (v : Verdict) → NoEntity ≡ checkingOf (ok v) → RunIs answer (end-here v (stopped e at (drop at answer))) r) → RunIs answer this-run r
-    unfolding check-end checkingOf
+    pub to-no-entity : (at : ℕ) → p ≡ ToNoEntity at → EndsHere answer at NoEntity r → RunIs answer this-run r
+    unfolding check-end verdictOf
     to-no-entity at e f = at-end SearchEnd.no-entity at (no-entity-is answer m p M at e) (f SearchEnd.no-entity Verdict.no-entity refl)
 
-    pub to-not-yet : (at : ℕ) → p ≡ ToNotYet at
-        → ((e : SearchEnd Leaf) (v : Verdict) → NotYet ≡ checkingOf (ok v) → RunIs answer (end-here v (stopped e at (drop at answer))) r) → RunIs answer this-run r
-    unfolding check-end checkingOf
+    pub to-not-yet : (at : ℕ) → p ≡ ToNotYet at → EndsHere answer at NotYet r → RunIs answer this-run r
+    unfolding check-end verdictOf
     to-not-yet at e f = at-end SearchEnd.not-yet at (not-yet-is answer m p M at e) (f SearchEnd.not-yet Verdict.not-yet refl)
 
     pub to-leaf : (leaf at : ℕ) → p ≡ ToLeaf leaf at
-        → ((s t : ℕ) (q : Question) → question direction s t ≡ ok q
-        → RunIs answer (check-end (q .part) size (found-proof answer leaf at) (SearchEnd.found (leaf-in-answer answer leaf))) r) → RunIs answer this-run r
+        → RunIs answer (check-end (partOf part) size (found-proof answer leaf at) (SearchEnd.found (leaf-in-answer answer leaf))) r → RunIs answer this-run r
     unfolding found-proof leaf-in-answer
-    to-leaf leaf at e f = at-end (SearchEnd.found (leaf-in-answer answer leaf)) at (found-is answer m p M leaf at e .1) (f s t (k .q) (k .is))
+    to-leaf leaf at e f = at-end (SearchEnd.found (leaf-in-answer answer leaf)) at (found-is answer m p M leaf at e .1) f
 
--- or a row before it
+-- or row 14
+pub commitment-refused : (part : Part) (s t : ℕ) (commitment answer : Bytes) (size : ℕ) (r : Run) → (length commitment ≡ 32 → ⊥) → r ≡ bareRun (Refused 14 0)
+    → RunIs answer (run-under 0x52 (asking part s t) commitment answer size) r
+unfolding run-under need _>>=_
+commitment-refused part s t commitment answer size r d q =
+    bare-refused answer (run-under 0x52 (asking part s t) commitment answer size) r 14 0 (simp (ne-eqb (length commitment) 32 d)) q
+
+-- row 11, or the run of the question asked
 module _ (direction s t : ℕ) (commitment answer : Bytes) (size : ℕ) (r : Run) where
-  pub direction-refused : 2 < direction → r ≡ bareRun (Refused 11 0) → RunIs answer (run direction s t commitment answer size) r
+  pub direction-refused : question direction s t ≡ refuse 11 0 → r ≡ bareRun (Refused 11 0) → RunIs answer (run direction s t commitment answer size) r
   unfolding run
-  direction-refused h q =
-      bare-refused answer (run direction s t commitment answer size) r 11 0 (bind-refused (question direction s t) _ 11 0 (unknown direction s t h)) q
+  direction-refused e q = bare-refused answer (run direction s t commitment answer size) r 11 0 (bind-refused (question direction s t) _ 11 0 e) q
 
-  pub commitment-refused : direction ≤ 2 → (length commitment ≡ 32 → ⊥) → r ≡ bareRun (Refused 14 0) → RunIs answer (run direction s t commitment answer size) r
-  unfolding run run-under need _>>=_
-  commitment-refused few d q =
-      let k = known-by direction s t few in
-      bare-refused answer (run direction s t commitment answer size) r 14 0
-      (bind-eq (question direction s t) _ (k .q) (k .is) ∙ simp (ne-eqb (length commitment) 32 d)) q
+  pub known-run : (part : Part) → question direction s t ≡ ok (asking part s t) → RunIs answer (run-under 0x52 (asking part s t) commitment answer size) r
+      → RunIs answer (run direction s t commitment answer size) r
+  unfolding run
+  known-run part e f = subst (λ (m : Result Accepted). RunIs answer m r) (sym (bind-eq (question direction s t) _ (asking part s t) e)) f
 
 -- ---- the calls
 

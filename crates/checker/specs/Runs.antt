@@ -2,7 +2,7 @@
 use mathlib.Core.Path.{_≡_}
 use mathlib.Core.Bool.{_&&_}
 use mathlib.Core.Option.{Option, none, some}
-use mathlib.Core.List.{List, [], _∷_}
+use mathlib.Core.List.{List, []}
 use Prim.Native.Nat.{ℕ, _+_, _≤_}
 use lib.Dec.{eqb}
 use lib.ListN.{length, getD, take, drop}
@@ -13,41 +13,50 @@ use Rattle.model.specs.Rows.{found-record-differs, path-digest-differs}
 use Rattle.model.specs.Graph.{VersionNode, node-at}
 use Rattle.model.specs.Accumulator.{L-width, Leaf}
 use Rattle.model.specs.Question.{Way, backward, forward, SearchEnd, Verdict}
-use Rattle.model.specs.CheckRows.{leaf-in, CheckedProof, stopped, CheckedTrace, read-trace, unreferenced, found-position, path-digests, leaf-digest, Accepted}
+use Rattle.model.specs.CheckRows.{leaf-in, CheckedProof, stopped, CheckedTrace, read-trace, unreferenced, found-position, path-digests, leaf-digest, Accepted, end-here}
 use Rattle.model.specs.Calls.{verdict-of}
 use Rattle.graph.specs.Table.{nodes-in, Kept, Digests, Ready}
 use Rattle.marks.specs.Marks.{mark-column}
 use Rattle.trace_reader.specs.Records.{places-in}
 use Rattle.checker.specs.declared.Checking.{Checking}
-use Rattle.checker.specs.declared.Checking.the-variants.{NoEntity, NotYet, Found, Refused}
+use Rattle.checker.specs.declared.Checking.the-variants as checking
+use Rattle.checker.specs.declared.Verdict as declared
+use Rattle.checker.specs.declared.Verdict.the-variants.{NoEntity, NotYet, Found}
 use Rattle.checker.specs.declared.Bounds.{Bounds}
 use Rattle.checker.specs.declared.Run.{Run}
 use Rattle.checker.specs.declared.Rows.{Rows}
-use Rattle.checker.specs.declared.Rows.the-variants.{Passed, Refused as Turned}
+use Rattle.checker.specs.declared.Rows.the-variants.{Passed, Refused}
 
 -- ---- the verdict
 
 -- document 01's number and values for each case
+unfoldable pub verdictOf : Verdict → declared.Verdict
+verdictOf Verdict.no-entity = NoEntity
+verdictOf Verdict.not-yet = NotYet
+verdictOf (Verdict.found t n) = Found (record { 0 = t }) n
+
 unfoldable pub checkingOf : Result Verdict → Checking
-checkingOf (ok Verdict.no-entity) = NoEntity
-checkingOf (ok Verdict.not-yet) = NotYet
-checkingOf (ok (Verdict.found t n)) = Found (record { 0 = t }) n
-checkingOf (refuse n p) = Refused n p
+checkingOf (ok v) = checking.Accepted (verdictOf v)
+checkingOf (refuse n p) = checking.Refused n p
 
 -- where in the answer the checked records stand; 0 and 0 if there are none or the check refuses
 unfoldable pub boundsOf : Result Accepted → Bounds
 boundsOf (ok a) = record { start = a .records-start; length = a .records-length }
 boundsOf (refuse n p) = record { start = 0; length = 0 }
 
--- a run of the check: its verdict, and where the checked records stand
+-- a run of the check: its outcome, and where the checked records stand
 pub record RunIs (answer : Bytes) (m : Result Accepted) (r : Run) : Type 0 where
-  pub verdict-is : r .verdict ≡ checkingOf (verdict-of m)
+  pub checking-is : r .checking ≡ checkingOf (verdict-of m)
   pub bounds-are : _≡_ {A = Bounds} (record { start = r .start; length = r .length }) (boundsOf m)
   pub inside : r .start + r .length ≤ length answer
 
 -- a run that ends without records
 unfoldable pub bareRun : Checking → Run
-bareRun v = record { verdict = v; start = 0; length = 0 }
+bareRun c = record { checking = c; start = 0; length = 0 }
+
+-- a run without a trace, behind a proof that ended before the byte `at`
+abbrev pub EndsHere : Bytes → ℕ → declared.Verdict → Run → Type 0
+EndsHere answer at verdict r = (e : SearchEnd Leaf) (v : Verdict) → verdict ≡ verdictOf v → RunIs answer (end-here v (stopped e at (drop at answer))) r
 
 -- ---- the leaf found
 
@@ -63,7 +72,7 @@ found-proof answer leaf at = stopped (SearchEnd.found (leaf-in-answer answer lea
 
 unfoldable pub rowsOf : Result (Unit {0}) → Rows
 rowsOf (ok u) = Passed
-rowsOf (refuse n p) = Turned n p
+rowsOf (refuse n p) = Refused n p
 
 -- a place, or n if there is none
 unfoldable pub place-or : ℕ → Option ℕ → ℕ
@@ -97,7 +106,7 @@ found-rows way l ns ps =
     need (equal (getD (path-digests way ns) i []) (leaf-digest way l)) path-digest-differs (getD ps i 0)
 
 -- the trace of the answer is in the table
-pub record Traced (way : Way) (size : ℕ) (answer : Bytes) (start : ℕ) (work : Bytes) (n end : ℕ) : Type 0 where
+pub record TraceInTable (way : Way) (size : ℕ) (answer : Bytes) (start : ℕ) (work : Bytes) (n end : ℕ) : Type 0 where
   pub is : read-trace way size start (drop start answer) ≡ ok (trace-in answer work start n end)
   pub inside : end ≤ length answer
   pub header : start + 5 ≤ length answer

@@ -5,7 +5,9 @@ use graph::PLACE_COLUMN;
 use graph::SLOT_WIDTH;
 use model::LETTER_R;
 use proof_reader::Proof;
+use question::Asked;
 use question::EntityKey;
+use question::Part;
 use question::TimeKey;
 use question::Way;
 use strings::DIGEST_WIDTH;
@@ -17,28 +19,33 @@ ghost use mathlib.Core.Bool.{cond, _&&_};
 ghost use mathlib.Core.List.{List, []};
 ghost use Prim.Native.Nat.{ℕ, _+_, _*_, _^_, _≤_, _<_};
 ghost use lib.Dec.{eqb};
-ghost use lib.ListN.{length, getD, drop};
+ghost use lib.ListN.{length, getD};
 ghost use Rattle.fields.specs.Fields.{equal};
 ghost use Rattle.round_constants.specs.Constants.{K};
-ghost use Rattle.model.specs.Result.{ok};
 ghost use Rattle.model.specs.Graph.{VersionNode};
-ghost use Rattle.model.specs.Question.{backward, Question, question, SearchEnd, Verdict};
-ghost use Rattle.model.specs.CheckRows.{stopped, found-position, path-digests, leaf-digest, trace-rows, end-here, with-trace, check-end, run};
+ghost use Rattle.model.specs.Question.{backward, SearchEnd};
+ghost use Rattle.model.specs.CheckRows.{found-position, path-digests, leaf-digest, trace-rows, with-trace, check-end, run-under, run};
 ghost use Rattle.model.specs.Calls.{cleared, check-call, records-call};
 ghost use Rattle.model.specs.Trace.{trace-header-width};
-ghost use Rattle.model.specs.Accumulator.{L-width};
+ghost use Rattle.model.specs.Accumulator.{L-width, letter-R};
 ghost use Rattle.question.specs.Ways.{wayOf};
+ghost use Rattle.question.specs.Directions.{partOf, asking};
 ghost use Rattle.graph.specs.Table.{Slot, node-in, nodes-in, Ready};
 ghost use Rattle.marks.specs.Marks.{is-marked};
 ghost use Rattle.trace_reader.specs.Records.{place-in, places-in};
 ghost use Rattle.checker.specs.declared.Checking.the-variants.{Refused};
-ghost use Rattle.checker.specs.Runs.{checkingOf, boundsOf, RunIs, bareRun, leaf-in-answer, found-proof, rowsOf, Lowest, digest-column, PathDigests, trace-in, found-rows, Traced};
+ghost use Rattle.checker.specs.Runs.{checkingOf, boundsOf, RunIs, bareRun, EndsHere, leaf-in-answer, found-proof, rowsOf, Lowest, digest-column, PathDigests, trace-in, found-rows, TraceInTable};
 
-// The verdict of a check, or the row that turned it away and where.
-pub enum Checking {
+// What an accepted answer says.
+pub enum Verdict {
     NoEntity,
     NotYet,
     Found { time: TimeKey, count: usize },
+}
+
+// The verdict of an accepted answer, or the row that turned it away and where.
+pub enum Checking {
+    Accepted { verdict: Verdict },
     Refused { number: u64, position: usize },
 }
 
@@ -57,7 +64,7 @@ fn lower(work: &[u8], i: usize, lowest: usize) -> usize
 
 // The lowest record but the last to which none refers, or n. From the last to the first, each record marks those to which it refers:
 // so a mark tells whether a later one refers to a record.
-fn lowest_unreferenced(work: &mut [u8], n: usize) -> usize
+fn find_unreferenced_backward(work: &mut [u8], n: usize) -> usize
     requires { ⌜ Ready (now work) n × (0 < n) ⌝ }
     ensures { λ r. ⌜ Lowest backward (now (work .entry)) (now (work .exit)) n r ⌝ }
 {
@@ -74,12 +81,12 @@ fn lowest_unreferenced(work: &mut [u8], n: usize) -> usize
 }
 
 // Row 22 is backward's alone.
-fn unreferenced(way: Way, work: &mut [u8], n: usize) -> usize
+fn find_unreferenced(way: Way, work: &mut [u8], n: usize) -> usize
     requires { ⌜ Ready (now work) n × (0 < n) ⌝ }
     ensures { λ r. ⌜ Lowest (wayOf way) (now (work .entry)) (now (work .exit)) n r ⌝ }
 {
     match way {
-        Way::Backward => lowest_unreferenced(work, n),
+        Way::Backward => find_unreferenced_backward(work, n),
         Way::Forward => n,
     }
 }
@@ -98,7 +105,7 @@ fn found_position(way: Way, n: usize) -> usize
 }
 
 // Where in the answer the record in a slot stands, of a trace that begins at `start`.
-fn position_of(work: &[u8], start: usize, i: usize) -> usize
+fn record_place(work: &[u8], start: usize, i: usize) -> usize
     requires { ⌜ Slot (now work) i × (start < 2 ^ 63) ⌝ }
     ensures { λ r. ⌜ r ≡ place-in (now (work .entry)) start i ⌝ }
 {
@@ -133,13 +140,13 @@ fn put_digests(way: Way, work: &mut [u8], n: usize, constants: &[u32; 64])
     ensures { λ _. ⌜ PathDigests (wayOf way) (now (work .entry)) (now (work .exit)) n ⌝ }
 {
     match way {
-        Way::Backward => graph::incoming_digests(work, n, constants),
-        Way::Forward => graph::outgoing_digests(work, n, constants),
+        Way::Backward => graph::fill_incoming(work, n, constants),
+        Way::Forward => graph::fill_outgoing(work, n, constants),
     }
 }
 
 // Whether the path digest of the record in a slot is the leaf's.
-fn same_digest(
+fn compare_digest(
     way: Way,
     work: &mut [u8],
     n: usize,
@@ -169,7 +176,7 @@ enum Rows {
 }
 
 // Rows 23 and 24.
-fn found_rows(
+fn check_found_record(
     way: Way,
     answer: &[u8],
     leaf: usize,
@@ -182,9 +189,9 @@ fn found_rows(
     ensures { λ r. ⌜ r ≡ rowsOf (found-rows (wayOf way) (leaf-in-answer (now (answer .entry)) leaf) (nodes-in (now (work .entry)) n) (places-in (now (work .entry)) start n)) ⌝ }
 {
     let i = found_position(way, n);
-    let position = position_of(work, start, i);
+    let position = record_place(work, start, i);
     if same_version(work, i, answer, leaf) {
-        if same_digest(way, work, n, i, answer, leaf, constants) {
+        if compare_digest(way, work, n, i, answer, leaf, constants) {
             return Rows::Passed;
         }
         return Rows::Refused {
@@ -199,7 +206,7 @@ fn found_rows(
 }
 
 // Rows 18, 22, 23 and 24.
-fn trace_rows(
+fn check_trace_rows(
     way: Way,
     answer: &[u8],
     leaf: usize,
@@ -218,39 +225,39 @@ fn trace_rows(
             position: end,
         };
     }
-    let lowest = unreferenced(way, work, n);
+    let lowest = find_unreferenced(way, work, n);
     if lowest < n {
-        let position = position_of(work, start, lowest);
+        let position = record_place(work, start, lowest);
         return Rows::Refused {
             number: 22,
             position: position,
         };
     }
-    found_rows(way, answer, leaf, start, n, work, constants)
+    check_found_record(way, answer, leaf, start, n, work, constants)
 }
 
 // ---- a run of the check
 
-// A verdict, and where in the answer the checked records stand: 0 and 0 if there are none.
+// The outcome, and where in the answer the checked records stand: 0 and 0 if there are none.
 struct Run {
-    verdict: Checking,
+    checking: Checking,
     start: usize,
     length: usize,
 }
 
 // A run that ends without records.
-fn bare_run(verdict: Checking) -> Run
-    ensures { λ r. ⌜ r ≡ bareRun verdict ⌝ }
+fn bare_run(checking: Checking) -> Run
+    ensures { λ r. ⌜ r ≡ bareRun checking ⌝ }
 {
     Run {
-        verdict: verdict,
+        checking: checking,
         start: 0,
         length: 0,
     }
 }
 
 // A run that a row turns away.
-fn refused(number: u64, position: usize) -> Run
+fn refused_run(number: u64, position: usize) -> Run
     ensures { λ r. ⌜ r ≡ bareRun (Refused number position) ⌝ }
 {
     bare_run(Checking::Refused {
@@ -260,18 +267,18 @@ fn refused(number: u64, position: usize) -> Run
 }
 
 // Without a trace, the answer ends where the proof does: row 18.
-fn without_trace(answer: &[u8], at: usize, verdict: Checking) -> Run
+fn end_here(answer: &[u8], at: usize, verdict: Verdict) -> Run
     requires { ⌜ at ≤ length (now answer) ⌝ }
-    ensures { λ r. ⌜ ((e : SearchEnd _) (v : Verdict) → verdict ≡ checkingOf (ok v) → RunIs (now (answer .entry)) (end-here v (stopped e at (drop at (now (answer .entry))))) r) ⌝ }
+    ensures { λ r. ⌜ EndsHere (now (answer .entry)) at verdict r ⌝ }
 {
     if at < answer.len() {
-        return refused(18, at);
+        return refused_run(18, at);
     }
-    bare_run(verdict)
+    bare_run(Checking::Accepted { verdict: verdict })
 }
 
-// The trace is in the table.
-fn traced(
+// The trace has been read into the table.
+fn check_read_trace(
     way: Way,
     answer: &[u8],
     leaf: usize,
@@ -282,19 +289,20 @@ fn traced(
     constants: &[u32; 64],
 ) -> Run
     requires { ⌜ (Ready (now work) n × (0 < n) × (leaf + L-width ≤ length (now answer)) × (at + trace-header-width ≤ length (now answer)) × (end ≤ length (now answer))) × (now constants ≡ K) ⌝ }
-    ensures { λ r. ⌜ ((size : ℕ) → Traced (wayOf way) size (now (answer .entry)) at (now (work .entry)) n end → RunIs (now (answer .entry)) (with-trace (wayOf way) size (found-proof (now (answer .entry)) leaf at) (leaf-in-answer (now (answer .entry)) leaf)) r) ⌝ }
+    ensures { λ r. ⌜ ((size : ℕ) → TraceInTable (wayOf way) size (now (answer .entry)) at (now (work .entry)) n end → RunIs (now (answer .entry)) (with-trace (wayOf way) size (found-proof (now (answer .entry)) leaf at) (leaf-in-answer (now (answer .entry)) leaf)) r) ⌝ }
 {
-    match trace_rows(way, answer, leaf, at, n, end, work, constants) {
-        Rows::Refused { number, position } => refused(number, position),
+    match check_trace_rows(way, answer, leaf, at, n, end, work, constants) {
+        Rows::Refused { number, position } => refused_run(number, position),
         Rows::Passed => {
             let time = proof_reader::leaf_time(answer, leaf);
             let start = at + TRACE_HEADER_WIDTH;
             let length = answer.len() - start;
+            let verdict = Verdict::Found {
+                time: time,
+                count: n,
+            };
             Run {
-                verdict: Checking::Found {
-                    time: time,
-                    count: n,
-                },
+                checking: Checking::Accepted { verdict: verdict },
                 start: start,
                 length: length,
             }
@@ -303,7 +311,7 @@ fn traced(
 }
 
 // A trace behind the proof, which ended at the leaf.
-fn with_trace(
+fn check_trace(
     way: Way,
     answer: &[u8],
     leaf: usize,
@@ -315,41 +323,72 @@ fn with_trace(
     ensures { λ r. ⌜ RunIs (now (answer .entry)) (with-trace (wayOf way) (length (now (work .entry))) (found-proof (now (answer .entry)) leaf at) (leaf-in-answer (now (answer .entry)) leaf)) r ⌝ }
 {
     match trace_reader::read_trace(answer, at, way, work) {
-        Trace::Refused { number, position } => refused(number, position),
-        Trace::Read { count, end } => traced(way, answer, leaf, at, count, end, work, constants),
+        Trace::Refused { number, position } => refused_run(number, position),
+        Trace::Read { count, end } => check_read_trace(
+            way,
+            answer,
+            leaf,
+            at,
+            count,
+            end,
+            work,
+            constants,
+        ),
     }
 }
 
-// The proof ended at the leaf: direction 0 asks for no trace.
-fn found(
-    direction: u8,
+// The proof ended at the leaf.
+fn check_found(
+    part: Part,
     answer: &[u8],
     leaf: usize,
     at: usize,
     work: &mut [u8],
     constants: &[u32; 64],
 ) -> Run
-    requires { ⌜ ((direction ≤ 2) × (leaf + L-width ≤ length (now answer)) × (at ≤ length (now answer))) × (now constants ≡ K) ⌝ }
-    ensures { λ r. ⌜ ((s t : ℕ) (q : Question) → question direction s t ≡ ok q → RunIs (now (answer .entry)) (check-end (q .part) (length (now (work .entry))) (found-proof (now (answer .entry)) leaf at) (SearchEnd.found (leaf-in-answer (now (answer .entry)) leaf))) r) ⌝ }
+    requires { ⌜ ((leaf + L-width ≤ length (now answer)) × (at ≤ length (now answer))) × (now constants ≡ K) ⌝ }
+    ensures { λ r. ⌜ RunIs (now (answer .entry)) (check-end (partOf part) (length (now (work .entry))) (found-proof (now (answer .entry)) leaf at) (SearchEnd.found (leaf-in-answer (now (answer .entry)) leaf))) r ⌝ }
 {
-    if direction == 0 {
-        let time = proof_reader::leaf_time(answer, leaf);
-        return without_trace(
-            answer,
-            at,
-            Checking::Found {
-                time: time,
-                count: 0,
-            },
-        );
+    match part {
+        Part::VersionOnly => {
+            let time = proof_reader::leaf_time(answer, leaf);
+            end_here(
+                answer,
+                at,
+                Verdict::Found {
+                    time: time,
+                    count: 0,
+                },
+            )
+        }
+        Part::Trace { way } => check_trace(way, answer, leaf, at, work, constants),
     }
-    if direction == 1 {
-        return with_trace(Way::Backward, answer, leaf, at, work, constants);
-    }
-    with_trace(Way::Forward, answer, leaf, at, work, constants)
 }
 
-// Rows 11 and 14, the proof, the trace; the work area is left as it comes.
+// The run of a known question: row 14, the proof, the trace.
+fn run_known(
+    part: Part,
+    entity: EntityKey,
+    time: TimeKey,
+    commitment: &[u8],
+    answer: &[u8],
+    work: &mut [u8],
+) -> Run
+    ensures { λ r. ⌜ RunIs (now (answer .entry)) (run-under letter-R (asking part (entity .0) (time .0)) (now (commitment .entry)) (now (answer .entry)) (length (now (work .entry)))) r ⌝ }
+{
+    if commitment.len() != DIGEST_WIDTH {
+        return refused_run(14, 0);
+    }
+    let constants = round_constants::work_out();
+    match proof_reader::check_proof(LETTER_R, entity, time, commitment, answer, 0, &constants) {
+        Proof::Refused { number, position } => refused_run(number, position),
+        Proof::NoEntity { at } => end_here(answer, at, Verdict::NoEntity),
+        Proof::NotYet { at } => end_here(answer, at, Verdict::NotYet),
+        Proof::Found { leaf, at } => check_found(part, answer, leaf, at, work, &constants),
+    }
+}
+
+// Row 11, and then the run; the work area is left as it comes.
 fn run_check(
     direction: u8,
     entity: EntityKey,
@@ -360,25 +399,16 @@ fn run_check(
 ) -> Run
     ensures { λ r. ⌜ RunIs (now (answer .entry)) (run direction (entity .0) (time .0) (now (commitment .entry)) (now (answer .entry)) (length (now (work .entry)))) r ⌝ }
 {
-    if direction > 2 {
-        return refused(11, 0);
-    }
-    if commitment.len() != DIGEST_WIDTH {
-        return refused(14, 0);
-    }
-    let constants = round_constants::work_out();
-    match proof_reader::check_proof(LETTER_R, entity, time, commitment, answer, 0, &constants) {
-        Proof::Refused { number, position } => refused(number, position),
-        Proof::NoEntity { at } => without_trace(answer, at, Checking::NoEntity),
-        Proof::NotYet { at } => without_trace(answer, at, Checking::NotYet),
-        Proof::Found { leaf, at } => found(direction, answer, leaf, at, work, &constants),
+    match question::asked_by(direction) {
+        Asked::Unknown => refused_run(11, 0),
+        Asked::Known { part } => run_known(part, entity, time, commitment, answer, work),
     }
 }
 
 // ---- the calls
 
 // A run, and then the work area cleared, whatever the outcome.
-fn run_cleared(
+fn run_and_clear(
     direction: u8,
     entity: EntityKey,
     time: TimeKey,
@@ -406,8 +436,8 @@ pub fn check(
     ensures result { λ r. ⌜ r ≡ checkingOf (check-call direction (entity .0) (time .0) (now (commitment .entry)) (now (answer .entry)) (now (work .entry)) .result) ⌝ }
     ensures cleared { λ _. ⌜ now (work .exit) ≡ check-call direction (entity .0) (time .0) (now (commitment .entry)) (now (answer .entry)) (now (work .entry)) .work ⌝ }
 {
-    let r = run_cleared(direction, entity, time, commitment, answer, work);
-    r.verdict
+    let r = run_and_clear(direction, entity, time, commitment, answer, work);
+    r.checking
 }
 
 // Where a part of the answer stands.
@@ -429,7 +459,7 @@ pub fn record_bounds(
     ensures inside { λ r. ⌜ r .start + r .length ≤ length (now (answer .entry)) ⌝ }
     ensures cleared { λ _. ⌜ now (work .exit) ≡ records-call direction (entity .0) (time .0) (now (commitment .entry)) (now (answer .entry)) (now (work .entry)) .work ⌝ }
 {
-    let r = run_cleared(direction, entity, time, commitment, answer, work);
+    let r = run_and_clear(direction, entity, time, commitment, answer, work);
     Bounds {
         start: r.start,
         length: r.length,

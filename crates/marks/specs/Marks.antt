@@ -2,9 +2,8 @@
 use mathlib.Core.Path.{_≡_}
 use mathlib.Core.Bool.{Bool, false, _&&_, _||_}
 use mathlib.Core.List.{List, [], _∷_}
-use Prim.Native.Nat.{ℕ, _+_, _*_, _≤_, _<_}
+use Prim.Native.Nat.{ℕ, _+_, _*_, _<_}
 use lib.Dec.{eqb, ltb}
-use lib.ListN.{length}
 use Rattle.fields.specs.Fields.{field}
 use Rattle.model.specs.Numbers.{Bytes}
 use Rattle.model.specs.Trace.{refers}

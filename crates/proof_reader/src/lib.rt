@@ -90,29 +90,14 @@ fn open(
 {
     let least = fields::get_u64(answer, known);
     let greatest = fields::get_u64(answer, known + SUBTREE_GREATEST);
+    let digest = known + SUBTREE_DIGEST;
     if least == greatest {
-        return match take_string(
-            answer,
-            at,
-            leaf,
-            width,
-            answer,
-            known + SUBTREE_DIGEST,
-            constants,
-        ) {
+        return match take_string(answer, at, leaf, width, answer, digest, constants) {
             Taking::Taken => Opening::Leaf,
             Taking::Refused { number } => Opening::Refused { number: number },
         };
     }
-    match take_string(
-        answer,
-        at,
-        inner,
-        BRANCH_WIDTH,
-        answer,
-        known + SUBTREE_DIGEST,
-        constants,
-    ) {
+    match take_string(answer, at, inner, BRANCH_WIDTH, answer, digest, constants) {
         Taking::Taken => Opening::Inner,
         Taking::Refused { number } => Opening::Refused { number: number },
     }

@@ -21,7 +21,8 @@ use Rattle.graph.specs.Table.{node-in, version}
 use Rattle.trees.proofs.Leaves.{leaf}
 use Rattle.trees.proofs.EntityWalk.{slot-node, At, at-entry, at-slot, at-few, at-forward, at-next, here-only, ended-only, entry-is, some-version, few-versions}
 use Rattle.proof_writer.specs.declared.Latest.{Latest}
-use Rattle.proof_writer.specs.StoredLeaves.{Graphed, versions}
+use Rattle.trees.specs.Tables.{Graphed}
+use Rattle.proof_writer.specs.StoredLeaves.{versions}
 use Rattle.proof_writer.specs.Walks.{latest-of, Counted, VersionsOf, HasVersion, FirstVersion}
 
 -- ---- the first version

@@ -25,7 +25,8 @@ use Rattle.proof_writer.specs.declared.Sought.the-variants.{Absent, Pres
 use Rattle.proof_writer.specs.declared.Versions.{Versions}
 use Rattle.proof_writer.specs.declared.Planned.{Planned}
 use Rattle.proof_writer.specs.declared.Planned.the-variants.{NoEntity, NotYet, Found}
-use Rattle.proof_writer.specs.StoredLeaves.{Graphed, HasGraph, own, LeavesStored, groups, versions, version-at, EntityLeavesStored}
+use Rattle.trees.specs.Tables.{Graphed, HasGraph}
+use Rattle.proof_writer.specs.StoredLeaves.{own, LeavesStored, groups, versions, version-at, EntityLeavesStored}
 use Rattle.proof_writer.specs.Walks.{onto, AbsentIs, PresentIs, EntitySought, Nearest, DepthIs, Counted, VersionsOf, HasVersion, FirstVersion}
 use Rattle.proof_writer.specs.Plans.{entity-path, entity-string, version-path, path-of, walk-of, PathFits, EntryIs, RestIs, Asks, PlanIs, Plan, HasEntity, Reaches}
 use Rattle.proof_writer.proofs.Descents.{way-none, way-least, way-stopped}

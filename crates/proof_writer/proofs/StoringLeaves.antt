@@ -21,11 +21,11 @@ use Rattle.accumulator.specs.declared.Subtree.{Subtree}
 use Rattle.accumulator.specs.Trees.{known, version-leaf}
 use Rattle.accumulator.specs.Halves.{stored-leaf, stored-leaves}
 use Rattle.accumulator.proofs.Splitting.{length-leaves}
-use Rattle.trees.specs.Tables.{Digested, Entered, HasDigests, slot-leaf, NextEntry, entity-leaves}
+use Rattle.trees.specs.Tables.{Digested, Entered, Graphed, HasGraph, slot-leaf, NextEntry, entity-leaves}
 use Rattle.trees.proofs.Leaves.{leaf}
 use Rattle.trees.proofs.EntityWalk.{leaf-known, At, at-entry, at-slot, at-few, at-known, at-forward, at-next, ended-only, entry-is, some-version, few-versions}
 use Rattle.trees.proofs.EntityList.{eq-T, leaves-none, leaves-more, few-leaves, all-leaves, entities-short}
-use Rattle.proof_writer.specs.StoredLeaves.{Graphed, LeafStored, own, groups, versions, EntityLeavesStored, VersionLeavesStored}
+use Rattle.proof_writer.specs.StoredLeaves.{LeafStored, own, groups, versions, EntityLeavesStored, VersionLeavesStored}
 
 -- ---- what is kept
 
@@ -54,9 +54,6 @@ graphed-kept cs work work′ n ns K a b c d G =
       entered = G .entered;
       times-rise = G .times-rise;
     }
-
-pub graphed-ready : (work : Bytes) (n : ℕ) (ns : List VersionNode) → Graphed work n ns → HasDigests work n
-graphed-ready work n ns G = record { ns = ns; digested = G .digested; entered = G .entered; number = G .number }
 
 -- ---- a leaf that is stored
 
@@ -178,8 +175,8 @@ module _ (work₀ work : Bytes) (n : ℕ) (ns : List VersionNode) (e i : ℕ) (G
   entities-size = E .kept .size
 
   module _ (l : i < n) where
-    pub entities-ready : HasDigests work n × (i < n) × T (is-entry (node-in work i))
-    entities-ready = (graphed-ready work n ns graphed-here, l, eq-T (E .here (omega (arith, G₀ .number))))
+    pub entities-ready : HasGraph work n × (i < n) × T (is-entry (node-in work i))
+    entities-ready = (record { ns = ns; graphed = graphed-here }, l, eq-T (E .here (omega (arith, G₀ .number))))
 
     pub entities-room : 128 * e + 128 ≤ length work
     entities-room = omega (arith, entities-few, graphed-here .digested .room, G₀ .number)

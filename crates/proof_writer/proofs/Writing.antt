@@ -20,17 +20,17 @@ use Rattle.graph.specs.Table.{node-in, version, columns, Kept}
 use Rattle.graph.proofs.Nodes.{map-length, node-kept}
 use Rattle.graph.proofs.Strings.{joined-append}
 use Rattle.accumulator.specs.declared.Subtree.{Subtree}
-use Rattle.accumulator.specs.Trees.{known, leafOf, headerOf}
+use Rattle.accumulator.specs.Trees.{known, leafOf}
 use Rattle.accumulator.specs.Halves.{subtree-of, stored-leaves, path-to, LeavesFit, PathPut}
 use Rattle.accumulator.proofs.Splitting.{subtree-of-tree}
 use Rattle.accumulator.proofs.Strings.{then}
 use Rattle.accumulator.proofs.Opening.{path-none}
-use Rattle.trees.specs.Tables.{slot-leaf}
+use Rattle.trees.specs.Tables.{slot-leaf, Graphed, HasGraph}
 use Rattle.trees.proofs.EntityWalk.{slot-node, slot-leaf-is, some-version}
 use Rattle.proof_writer.specs.declared.EntityPath.{EntityPath}
 use Rattle.proof_writer.specs.declared.Planned.{Planned}
 use Rattle.proof_writer.specs.declared.Planned.the-variants.{NoEntity, NotYet, Found}
-use Rattle.proof_writer.specs.StoredLeaves.{Graphed, HasGraph, own, LeavesStored, HasLeaves, groups, versions, version-at, VersionLeavesStored}
+use Rattle.proof_writer.specs.StoredLeaves.{own, LeavesStored, HasLeaves, groups, versions, version-at, VersionLeavesStored}
 use Rattle.proof_writer.specs.Walks.{onto}
 use Rattle.proof_writer.specs.Plans.{entity-path, entity-string, version-path, path-of, length-of, walk-of, PathFits, PathIs, EntryIs, FoundIs, RestIs, Asks, PlanIs, Plan, HasPlan, EntityFits, EntityPut, front-bytes}
 use Rattle.proof_writer.proofs.Descents.{digest-32}
@@ -59,16 +59,16 @@ pub front-stored : (work : Bytes) (p : EntityPath) (room : ℕ) → PathFits wor
     → LeavesFit work 84 128 0 (p .count) × (0 ≤ p .target) × (p .target < 0 + p .count) × (65 + 97 * p .depth ≤ room)
 front-stored work p room F h = (has-leaves-stored work (p .count) (F .has-leaves), omega arith, omega (arith, F .inside), h)
 
-pub front-is : (work : Bytes) (n : ℕ) (ns : List VersionNode) (last : TimeKey) (p : EntityPath) (out out1 out2 : Bytes) (k : Subtree) → PathIs work ns p
-    → PathPut 0x50 (stored-leaves work 84 128 0 (p .count)) (p .target - 0) (p .depth) out out1 65 (known k) → out2 ≡ written out1 0 (root-string (headerOf n last) (p .count) (known k))
-    → 65 + 97 * p .depth ≤ length out → out2 ≡ written out 0 (joined (root (headerOf n last) ns ∷ entity-path ns p))
+pub front-is : (work : Bytes) (ns : List VersionNode) (header : Header) (p : EntityPath) (out out1 out2 : Bytes) (k : Subtree) → PathIs work ns p
+    → PathPut 0x50 (stored-leaves work 84 128 0 (p .count)) (p .target - 0) (p .depth) out out1 65 (known k) → out2 ≡ written out1 0 (root-string header (p .count) (known k))
+    → 65 + 97 * p .depth ≤ length out → out2 ≡ written out 0 (joined (root header ns ∷ entity-path ns p))
 unfolding root entity-path groups entity-tree
-front-is work n ns last p out out1 out2 k I P e h =
+front-is work ns header p out out1 out2 k I P e h =
     let t : known k ≡ subtree entities-layout (entity-tree ns) = P .root ∙ stored-tree entities-layout no-group work (groups ns) (p .count) (I .stored) (I .fits .has-leaves .some-leaf) in
     let c : p .count ≡ length (entities ns) = I .stored .number ∙ map-length (group (version-leaves ns)) (entities ns) in
     string-then-path 0x50 (stored-leaves work 84 128 0 (p .count)) (own entities-layout (groups ns)) (p .target - 0) (p .target) (p .depth) out out1 out2 _ 0 65 65 (known k) P (I .stored .stored) (let z : p .target - 0 ≡ p .target = omega arith in z)
-    (e ∙ ap₂ (λ (m : ℕ) (u : Known). written out1 0 (root-string (headerOf n last) m u)) c t)
-    (root-length (headerOf n last) (length (entities ns)) (subtree entities-layout (entity-tree ns)) (digest-32 entities-layout no-group (entity-tree ns))) (omega arith) h
+    (e ∙ ap₂ (λ (m : ℕ) (u : Known). written out1 0 (root-string header m u)) c t)
+    (root-length header (length (entities ns)) (subtree entities-layout (entity-tree ns)) (digest-32 entities-layout no-group (entity-tree ns))) (omega arith) h
 
 -- ---- G and N
 

@@ -14,7 +14,8 @@ use Rattle.accumulator.specs.Halves.{path-to}
 use Rattle.proof_writer.specs.declared.EntityPath.{EntityPath}
 use Rattle.proof_writer.specs.declared.Planned.{Planned}
 use Rattle.proof_writer.specs.declared.Planned.the-variants.{NoEntity, NotYet, Found}
-use Rattle.proof_writer.specs.StoredLeaves.{Graphed, HasGraph, own, LeavesStored, HasLeaves, groups, versions, version-at}
+use Rattle.trees.specs.Tables.{Graphed, HasGraph}
+use Rattle.proof_writer.specs.StoredLeaves.{own, LeavesStored, HasLeaves, groups, versions, version-at}
 use Rattle.proof_writer.specs.Walks.{onto}
 
 -- ---- strings

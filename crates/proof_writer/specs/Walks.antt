@@ -5,7 +5,6 @@ use mathlib.Core.List.{List, _++_}
 use Prim.Native.Nat.{ℕ, _+_, _-_, _*_, _≤_, _<_}
 use lib.Dec.{ltb}
 use lib.ListN.{length, getD}
-use Rattle.fields.specs.Fields.{field}
 use Rattle.model.specs.Numbers.{Bytes, joined}
 use Rattle.model.specs.Graph.{VersionNode}
 use Rattle.model.specs.Accumulator.{Layout, tree, largest-power-below, VersionLeaf, versions-layout, no-leaf, Group, entities-layout, no-group, leaf-string}

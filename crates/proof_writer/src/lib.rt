@@ -1,5 +1,6 @@
 // The host's writing of an answer's proof: the strings that the walk through the two trees opens, over a node table.
 use accumulator::EntityTree;
+use accumulator::Header;
 use accumulator::Subtree;
 use accumulator::VersionTree;
 use graph::LEAF_DIGEST_COLUMN;
@@ -31,7 +32,8 @@ ghost use Rattle.model.specs.Question.{Question};
 ghost use Rattle.model.specs.Answer.{proof};
 ghost use Rattle.graph.specs.Table.{Slot, time-in, node-in, columns, Kept};
 ghost use Rattle.accumulator.specs.Trees.{headerOf};
-ghost use Rattle.proof_writer.specs.StoredLeaves.{Graphed, HasGraph, key-in, LeafStored, LeavesStored, HasLeaves, EntityLeavesStored, VersionLeavesStored, version-at};
+ghost use Rattle.trees.specs.Tables.{Graphed, HasGraph};
+ghost use Rattle.proof_writer.specs.StoredLeaves.{key-in, LeafStored, LeavesStored, HasLeaves, EntityLeavesStored, VersionLeavesStored, version-at};
 ghost use Rattle.proof_writer.specs.Walks.{Among, half-of, EntitySought, DepthIs, latest-of, VersionsOf, HasVersion, FirstVersion};
 ghost use Rattle.proof_writer.specs.Plans.{entity-path, front-bytes, FoundIs, length-of, PathFits, PathIs, Asks, PlanIs, Plan, HasEntity, Reaches, HasPlan, EntityFits, EntityPut};
 
@@ -380,13 +382,13 @@ pub fn proof_length(plan: Planned) -> usize
 fn put_front(
     work: &[u8],
     n: usize,
-    last: TimeKey,
+    header: Header,
     path: EntityPath,
     out: &mut [u8],
     constants: &[u32; 64],
 )
     requires { ⌜ (HasGraph (now work) n × PathFits (now work) path × (R-width + branch-width * path .depth ≤ length (now out))) × (now constants ≡ K) ⌝ }
-    ensures { λ _. ⌜ ((ns : List VersionNode) → Graphed (now (work .entry)) n ns → PathIs (now (work .entry)) ns path → now (out .exit) ≡ written (now (out .entry)) 0 (joined (root (headerOf n last) ns ∷ entity-path ns path))) ⌝ }
+    ensures { λ _. ⌜ ((ns : List VersionNode) → Graphed (now (work .entry)) n ns → PathIs (now (work .entry)) ns path → now (out .exit) ≡ written (now (out .entry)) 0 (joined (root (headerOf header) ns ∷ entity-path ns path))) ⌝ }
 {
     let count = path.count;
     let tree = accumulator::put_path(
@@ -402,7 +404,7 @@ fn put_front(
         R_WIDTH,
         constants,
     );
-    accumulator::put_root(out, 0, count as u32, n as u32, last, EntityTree(tree));
+    accumulator::put_root(out, 0, header, count as u32, EntityTree(tree));
 }
 
 // G of the entity that a version enters, and the strings N on the way to a leaf of its tree. Stores the leaves of its versions.
@@ -460,7 +462,7 @@ fn put_version(work: &[u8], n: usize, slot: usize, out: &mut [u8], at: usize)
 fn put_walk(
     work: &mut [u8],
     n: usize,
-    last: TimeKey,
+    header: Header,
     path: EntityPath,
     entry: usize,
     index: usize,
@@ -469,10 +471,10 @@ fn put_walk(
     constants: &[u32; 64],
 )
     requires { ⌜ (PathFits (now work) path × EntityFits (now work) n entry index depth (length (now out)) (R-width + branch-width * path .depth)) × (now constants ≡ K) ⌝ }
-    ensures strings { λ _. ⌜ ((ns : List VersionNode) → Graphed (now (work .entry)) n ns → PathIs (now (work .entry)) ns path → now (out .exit) ≡ written (now (out .entry)) 0 (front-bytes (headerOf n last) ns path entry index depth)) ⌝ }
+    ensures strings { λ _. ⌜ ((ns : List VersionNode) → Graphed (now (work .entry)) n ns → PathIs (now (work .entry)) ns path → now (out .exit) ≡ written (now (out .entry)) 0 (front-bytes (headerOf header) ns path entry index depth)) ⌝ }
     ensures kept { λ _. ⌜ Kept (columns 84 124 ∷ []) (now (work .entry)) (now (work .exit)) ⌝ }
 {
-    put_front(work, n, last, path, out, constants);
+    put_front(work, n, header, path, out, constants);
     put_entity(
         work,
         n,
@@ -489,7 +491,7 @@ fn put_walk(
 fn put_found(
     work: &mut [u8],
     n: usize,
-    last: TimeKey,
+    header: Header,
     path: EntityPath,
     entry: usize,
     slot: usize,
@@ -499,10 +501,10 @@ fn put_found(
     constants: &[u32; 64],
 )
     requires { ⌜ (PathFits (now work) path × EntityFits (now work) n entry index depth (length (now out)) (R-width + branch-width * path .depth) × (slot < n) × (199 + 97 * path .depth + 97 * depth ≤ length (now out))) × (now constants ≡ K) ⌝ }
-    ensures strings { λ _. ⌜ ((ns : List VersionNode) → Graphed (now (work .entry)) n ns → PathIs (now (work .entry)) ns path → FoundIs ns (node-at ns entry .entity) entry slot index depth → now (out .exit) ≡ written (now (out .entry)) 0 (front-bytes (headerOf n last) ns path entry index depth ++ leaf-string (version-at ns slot .leaf))) ⌝ }
+    ensures strings { λ _. ⌜ ((ns : List VersionNode) → Graphed (now (work .entry)) n ns → PathIs (now (work .entry)) ns path → FoundIs ns (node-at ns entry .entity) entry slot index depth → now (out .exit) ≡ written (now (out .entry)) 0 (front-bytes (headerOf header) ns path entry index depth ++ leaf-string (version-at ns slot .leaf))) ⌝ }
     ensures kept { λ _. ⌜ Kept (columns 84 124 ∷ []) (now (work .entry)) (now (work .exit)) ⌝ }
 {
-    put_walk(work, n, last, path, entry, index, depth, out, constants);
+    put_walk(work, n, header, path, entry, index, depth, out, constants);
     put_version(
         work,
         n,
@@ -517,21 +519,21 @@ pub fn write(
     plan: Planned,
     work: &mut [u8],
     n: usize,
-    last: TimeKey,
+    header: Header,
     out: &mut [u8],
     constants: &[u32; 64],
 )
     requires { ⌜ (HasPlan (now work) n plan × (length-of plan ≤ length (now out))) × (now constants ≡ K) ⌝ }
-    ensures proof { λ _. ⌜ ((x t : ℕ) → Plan (now (work .entry)) n x t plan → (ns : List VersionNode) → Graphed (now (work .entry)) n ns → (q : Question) → Asks q x t → now (out .exit) ≡ written (now (out .entry)) 0 (joined (proof (headerOf n last) ns q .opened))) ⌝ }
+    ensures proof { λ _. ⌜ ((x t : ℕ) → Plan (now (work .entry)) n x t plan → (ns : List VersionNode) → Graphed (now (work .entry)) n ns → (q : Question) → Asks q x t → now (out .exit) ≡ written (now (out .entry)) 0 (joined (proof (headerOf header) ns q .opened))) ⌝ }
     ensures kept { λ _. ⌜ Kept (columns 84 124 ∷ []) (now (work .entry)) (now (work .exit)) ⌝ }
 {
     match plan {
-        Planned::NoEntity { length, path } => put_front(work, n, last, path, out, constants),
+        Planned::NoEntity { length, path } => put_front(work, n, header, path, out, constants),
         Planned::NotYet {
             length,
             path,
             entry,
-        } => put_walk(work, n, last, path, entry, 0, 0, out, constants),
+        } => put_walk(work, n, header, path, entry, 0, 0, out, constants),
         Planned::Found {
             length,
             path,
@@ -542,7 +544,7 @@ pub fn write(
         } => put_found(
             work,
             n,
-            last,
+            header,
             path,
             entry,
             slot,

@@ -7,5 +7,4 @@ mod Schedule
 mod Messages
 mod Padding
 mod Arrays
-mod Calls
 mod Examples

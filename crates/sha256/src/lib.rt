@@ -7,7 +7,6 @@ ghost use Rattle.fields.specs.Fields.{part};
 ghost use Rattle.round_constants.specs.Constants.{K};
 ghost use Rattle.sha256.specs.Sha256.{_⊞_, Ch, Maj, Σ0, Σ1, σ0, σ1, H0, words, extended, T1, T2, round, rounds, sums, compress, hashed, bytes, sha256};
 ghost use Rattle.sha256.specs.State.{Scheduled, ending, Held, Absorbed};
-ghost use Rattle.sha256.specs.Hash.{hashResult, hashOutput};
 use std::num::wrapping_add_u32;
 use std::num::wrapping_add_u64;
 
@@ -276,27 +275,12 @@ pub fn digest(m: &[u8], constants: &[u32; 64]) -> [u8; 32]
     closed(h, m, n - rest, rest, in_bits(n as u64), constants)
 }
 
-// What `hash` answers: the digest is written, or a row of the table turns the call away.
-pub enum Hashing {
-    Written,
-    Refused { number: u64, position: u64 },
-}
-
-// Writes the digest to the front of `out`.
-pub fn hash(message: &[u8], out: &mut [u8]) -> Hashing
-    ensures result { λ r. ⌜ r ≡ hashResult (now (out .entry)) ⌝ }
-    ensures output { λ _. ⌜ now (out .exit) ≡ hashOutput (now (message .entry)) (now (out .entry)) ⌝ }
+// The same, for a caller without the constants.
+pub fn hash(message: &[u8]) -> [u8; 32]
+    ensures { λ r. ⌜ r ≡ sha256 (now (message .entry)) ⌝ }
 {
-    if out.len() < 32 {
-        return Hashing::Refused {
-            number: 13,
-            position: 0,
-        };
-    }
     let constants = round_constants::work_out();
-    let d = digest(message, &constants);
-    fields::copy(out, 0, &d, 0, 32);
-    Hashing::Written
+    digest(message, &constants)
 }
 
 // A message that is taken in part by part: the hash value of its whole blocks, the bytes after them at the front of the block,

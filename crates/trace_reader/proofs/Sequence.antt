@@ -26,12 +26,12 @@ use Rattle.graph.proofs.Nodes.{length-nodes, map-counting-more, map-counting-sa
 use Rattle.trace_reader.specs.declared.Step.{Step}
 use Rattle.trace_reader.specs.declared.Step.the-variants.{Taken, Refused as Halted}
 use Rattle.trace_reader.specs.declared.Records.the-variants.{Read as AllRead, Refused as Turned}
-use Rattle.trace_reader.specs.Records.{beforeOf, Shown, RecordPut, Steps, taken, halted, place-in, places-in, RecordsAre, in-table, turned}
+use Rattle.trace_reader.specs.Records.{beforeOf, Shown, RecordInSlot, Steps, taken, halted, place-in, places-in, RecordsAre, in-table, turned}
 use Rattle.trace_reader.proofs.Letters.{width-most}
 
 -- ---- one slot more
 
-module _ (work work′ : Bytes) (i : ℕ) (n : VersionNode) (place : ℕ) (put : RecordPut work work′ i n place) where
+module _ (work work′ : Bytes) (i : ℕ) (n : VersionNode) (place : ℕ) (put : RecordInSlot work work′ i n place) where
   nodes-then : nodes-in work′ (i + 1) ≡ nodes-in work i ++ (n ∷ [])
   nodes-then =
       nodes-more work′ i
@@ -85,7 +85,7 @@ module _ (way : Way) (count : ℕ) (answer : Bytes) (start i last : ℕ) (work :
       go : Steps way i last answer at work work′ place (Halted n) → RecordsAre (read-records way count [] [] (start + 5) (drop (start + 5) answer)) answer start count work′ (Turned n at)
       go (halted _ h) = turned n at (one-step ∙ bind-refused _ _ n at (next (refuse n at) h))
 
-  module _ (c w : ℕ) (t : ℕ) (work′ : Bytes) (sh : Shown way i last answer at c) (put : RecordPut work work′ i (shown-record c (drop at answer)) (at - start)) (hw : w ≡ letter-width c) (ht : t ≡ field 8 answer (at + 5)) where
+  module _ (c w : ℕ) (t : ℕ) (work′ : Bytes) (sh : Shown way i last answer at c) (put : RecordInSlot work work′ i (shown-record c (drop at answer)) (at - start)) (hw : w ≡ letter-width c) (ht : t ≡ field 8 answer (at + 5)) where
     n : VersionNode
     n = shown-record c (drop at answer)
 

@@ -17,7 +17,7 @@ use Rattle.model.specs.CheckRows.{shown-edges, shown-record, all-below}
 use Rattle.graph.specs.Table.{absent, present, version, columns, NodePut}
 use Rattle.graph.proofs.Slots.{kept-written, field-apart-slot}
 use Rattle.graph.proofs.Nodes.{present-some, present-none, node-kept, node-other}
-use Rattle.trace_reader.specs.Records.{RecordPut}
+use Rattle.trace_reader.specs.Records.{RecordInSlot}
 use Rattle.trace_reader.proofs.Letters.{width-V, width-D}
 
 both : (a b : Bool) → (a && (b && true)) ≡ true → (a ≡ true) × (b ≡ true)
@@ -130,7 +130,7 @@ version-put work work′ i e t p s k e′ t′ he ht put = subst (NodePut work w
 
 -- and its place
 pub record-put : (work w1 w2 : Bytes) (i : ℕ) (n : VersionNode) (place : ℕ) → 128 * i + 128 ≤ length work → place < 2 ^ 32 → NodePut work w1 i n
-    → w2 ≡ written w1 (128 * i + 96) (encode 4 place) → RecordPut work w2 i n place
+    → w2 ≡ written w1 (128 * i + 96) (encode 4 place) → RecordInSlot work w2 i n place
 unfolding field
 record-put work w1 w2 i n place room fits put e =
     let long = put .kept .size in

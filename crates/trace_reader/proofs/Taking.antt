@@ -12,7 +12,7 @@ use Rattle.model.specs.CheckRows.{shown-record, read-record}
 use Rattle.trace_reader.specs.declared.RecordRow.{RecordRow}
 use Rattle.trace_reader.specs.declared.RecordRow.the-variants.{Read, Refused}
 use Rattle.trace_reader.specs.declared.Step.the-variants.{Taken, Refused as Halted}
-use Rattle.trace_reader.specs.Records.{beforeOf, Shown, Reads, reads, refused, RecordPut, Steps, taken, halted}
+use Rattle.trace_reader.specs.Records.{beforeOf, Shown, Reads, reads, refused, RecordInSlot, Steps, taken, halted}
 use Rattle.trace_reader.proofs.Letters.{width-least}
 
 module _ (way : Way) (i last : ℕ) (answer : Bytes) (at : ℕ) where
@@ -36,6 +36,6 @@ module _ (way : Way) (i last : ℕ) (answer : Bytes) (at : ℕ) where
     pub step-halts : (n : ℕ) → r ≡ Refused n → Steps way i last answer at work work′ place (Halted n)
     step-halts n e = halted n (turned r h n e)
 
-    pub step-takes : (c : ℕ) → r ≡ Read c → RecordPut work work′ i (shown-record c (drop at answer)) place → (width time : ℕ)
+    pub step-takes : (c : ℕ) → r ≡ Read c → RecordInSlot work work′ i (shown-record c (drop at answer)) place → (width time : ℕ)
         → width ≡ letter-width c → time ≡ field 8 answer (at + 5) → Steps way i last answer at work work′ place (Taken width (record { 0 = time }))
     step-takes c e put width time hw ht = taken c width time (shows r h c e) put hw ht

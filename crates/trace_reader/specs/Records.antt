@@ -48,7 +48,7 @@ pub data Reads (way : question.Way) (i last : ℕ) (answer : Bytes) (at : ℕ) :
   refused : (number : ℕ) → read-record way i (beforeOf i last) at (drop at answer) ≡ refuse number at → Reads way i last answer at (Refused number)
 
 -- slot i holds a version and, at column 96, its record's place counted from the first byte of the trace; the other slots are as before
-pub record RecordPut (work work′ : Bytes) (i : ℕ) (n : VersionNode) (place : ℕ) : Type 0 where
+pub record RecordInSlot (work work′ : Bytes) (i : ℕ) (n : VersionNode) (place : ℕ) : Type 0 where
   pub size : length work′ ≡ length work
   pub node : node-in work′ i ≡ n
   pub placed : field 4 work′ (slot-width * i + 96) ≡ place
@@ -57,7 +57,7 @@ pub record RecordPut (work work′ : Bytes) (i : ℕ) (n : VersionNode) (place :
 
 -- the i-th record is in its slot, or the row that it meets
 pub data Steps (way : question.Way) (i last : ℕ) (answer : Bytes) (at : ℕ) (work work′ : Bytes) (place : ℕ) : Step → Type 0 where
-  taken : (letter width time : ℕ) → Shown way i last answer at letter → RecordPut work work′ i (shown-record letter (drop at answer)) place
+  taken : (letter width time : ℕ) → Shown way i last answer at letter → RecordInSlot work work′ i (shown-record letter (drop at answer)) place
       → width ≡ letter-width letter → time ≡ field 8 answer (at + 5) → Steps way i last answer at work work′ place (Taken width (record { 0 = time }))
   halted : (number : ℕ) → read-record way i (beforeOf i last) at (drop at answer) ≡ refuse number at
       → Steps way i last answer at work work′ place (Halted number)

@@ -43,7 +43,7 @@ ghost use Rattle.model.specs.Trace.{trace-header-width, letter-width};
 ghost use Rattle.model.specs.CheckRows.{due, shown-edges, shown-record, all-below, read-records};
 ghost use Rattle.question.specs.Ways.{wayOf};
 ghost use Rattle.graph.specs.Table.{slot-width, Slot, absent, version, NodePut};
-ghost use Rattle.trace_reader.specs.Records.{beforeOf, valuesRow, Reads, RecordPut, Steps, RecordsAre, HeaderIs, TraceIs};
+ghost use Rattle.trace_reader.specs.Records.{beforeOf, valuesRow, Reads, RecordInSlot, Steps, RecordsAre, HeaderIs, TraceIs};
 
 // ---- letters
 
@@ -191,7 +191,7 @@ fn start_at(answer: &[u8], at: usize) -> u16
 }
 
 // Puts the version of the record at a place into slot i, with the starts of its edges.
-fn put_version(
+fn put_record_node(
     answer: &[u8],
     at: usize,
     work: &mut [u8],
@@ -216,26 +216,26 @@ fn put_shown(answer: &[u8], at: usize, letter: u8, work: &mut [u8], i: usize)
     if letter == LETTER_V {
         let previous = start_at(answer, at + V_PREVIOUS);
         let source = start_at(answer, at + V_SOURCE);
-        put_version(answer, at, work, i, previous, source, answer[at + V_KIND]);
+        put_record_node(answer, at, work, i, previous, source, answer[at + V_KIND]);
         return;
     }
     if letter == LETTER_D {
         let source = start_at(answer, at + D_SOURCE);
-        put_version(answer, at, work, i, ABSENT, source, answer[at + D_KIND]);
+        put_record_node(answer, at, work, i, ABSENT, source, answer[at + D_KIND]);
         return;
     }
     if letter == LETTER_T {
         let previous = start_at(answer, at + T_PREVIOUS);
-        put_version(answer, at, work, i, previous, ABSENT, 0);
+        put_record_node(answer, at, work, i, previous, ABSENT, 0);
         return;
     }
-    put_version(answer, at, work, i, ABSENT, ABSENT, 0);
+    put_record_node(answer, at, work, i, ABSENT, ABSENT, 0);
 }
 
 // Puts what a record shows into slot i, and the record's place in the trace into a free column.
 fn put_record(answer: &[u8], at: usize, letter: u8, work: &mut [u8], i: usize, place: usize)
     requires { ⌜ (at + letter-width letter ≤ length (now answer)) × (all-below i (shown-edges letter (drop at (now answer))) ≡ true) × (i ≤ absent) × Slot (now work) i × (place < 2 ^ 32) ⌝ }
-    ensures { λ _. ⌜ RecordPut (now (work .entry)) (now (work .exit)) i (shown-record letter (drop at (now (answer .entry)))) place ⌝ }
+    ensures { λ _. ⌜ RecordInSlot (now (work .entry)) (now (work .exit)) i (shown-record letter (drop at (now (answer .entry)))) place ⌝ }
 {
     put_shown(answer, at, letter, work, i);
     put_u32(work, SLOT_WIDTH * i + PLACE_COLUMN, place as u32);
@@ -248,7 +248,7 @@ enum Step {
 }
 
 // Takes the i-th record in, which begins at a place: its rows, and then its slot.
-fn record_step(
+fn read_record(
     answer: &[u8],
     at: usize,
     way: Way,
@@ -290,7 +290,7 @@ fn read_records(answer: &[u8], start: usize, way: Way, count: usize, work: &mut 
     let mut last = TimeKey(0);
     let mut i: usize = 0;
     while i < count {
-        match record_step(answer, at, way, i, last, work, at - start) {
+        match read_record(answer, at, way, i, last, work, at - start) {
             Step::Refused { number } => {
                 return Records::Refused {
                     number: number,

@@ -13,7 +13,7 @@ use Rattle.model.proofs.Outcomes.{by-test, T-eq}
 use Rattle.model.proofs.Lists.{_among_, Up, none, up-ext, up-snoc, elem-in, in-elem}
 use Rattle.graph.proofs.Slots.{kept-then}
 use Rattle.marks.specs.Marks.{mark-column, is-marked, MarkSet, Unmarked}
-use Rattle.trace_writer.specs.Marks.{members, Begun}
+use Rattle.trace_writer.specs.Marks.{members, OnlyMarked}
 
 pub no-T : (b : Bool) → (T b → ⊥) → b ≡ false
 no-T true f = absurd (f tt)
@@ -21,8 +21,8 @@ no-T false f = refl
 
 -- ---- the found version's mark
 
-pub begun : (work w1 w2 : Bytes) (n v : ℕ) → Unmarked work w1 n → MarkSet w1 w2 v true → Begun work w2 n v
-begun work w1 w2 n v u m =
+pub only-marked : (work w1 w2 : Bytes) (n v : ℕ) → Unmarked work w1 n → MarkSet w1 w2 v true → OnlyMarked work w2 n v
+only-marked work w1 w2 n v u m =
     record { kept = kept-then mark-column work w1 w2 (u .kept) (m .kept); only = λ j h. go j h (ℕ-discrete j v) }
   where
     go : (j : ℕ) → j < n → Dec (j ≡ v) → is-marked w2 j ≡ eqb j v

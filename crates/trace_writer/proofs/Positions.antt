@@ -1,4 +1,4 @@
--- Positions: the rank of a slot is the number of marked slots before it. Assumes nothing.
+-- Positions: the position of a slot is the number of marked slots before it. Assumes nothing.
 use mathlib.Core.Path.{_≡_, refl, sym, ap, ap₂, _∙_}
 use mathlib.Core.Logic.{⊎-elim}
 use mathlib.Core.Bool.{Bool, true, false, cond}
@@ -20,7 +20,7 @@ use Rattle.model.proofs.Lists.{_among_}
 use Rattle.graph.specs.Table.{absent, Kept}
 use Rattle.graph.proofs.Slots.{kept-none, kept-then, kept-written, field-apart-slot}
 use Rattle.marks.specs.Marks.{is-marked}
-use Rattle.trace_writer.specs.Marks.{rank-column, rank-in, members, RanksDone, Ranked}
+use Rattle.trace_writer.specs.Marks.{position-column, slot-position, members, PositionsDone, Positioned}
 use Rattle.marks.proofs.Marking.{marked-kept}
 use Rattle.trace_writer.proofs.Marking.{members-same, members-below}
 
@@ -30,9 +30,9 @@ count-one work i b e t = ap {B = ℕ} (λ (x : Bool). cond x 1 0) (sym t ∙ e)
 pub count-none : (work : Bytes) (i : ℕ) (b : Bool) → b ≡ is-marked work i → b ≡ false → _≡_ {A = ℕ} 0 (cond (is-marked work i) 1 0)
 count-none work i b e f = ap {B = ℕ} (λ (x : Bool). cond x 1 0) (sym f ∙ e)
 
-pub rank-is : (work : Bytes) (i r : ℕ) → r ≡ field 4 work (128 * i + 124) → r ≡ rank-in work i
-unfolding rank-in
-rank-is work i r e = e
+pub slot-position-is : (work : Bytes) (i r : ℕ) → r ≡ field 4 work (128 * i + 124) → r ≡ slot-position work i
+unfolding slot-position
+slot-position-is work i r e = e
 
 -- ---- how many are marked
 
@@ -54,93 +54,93 @@ module _ (work : Bytes) where
   count-few zero = lit≤ tt
   count-few (suc i) = let r = count-few i in let c = one-at-most (is-marked work i) _ refl in omega (arith, count-more i)
 
--- ---- the loop: the first i slots have their ranks
+-- ---- the loop: the first i slots have their positions
 
-pub record Ranking (w0 work : Bytes) (n rank i : ℕ) : Type 0 where
+pub record Positioning (w0 work : Bytes) (n position i : ℕ) : Type 0 where
   pub few : i ≤ n
-  pub kept : Kept rank-column w0 work
-  pub count : rank ≡ length (members w0 i)
-  pub small : rank ≤ i
-  pub ranks : (j : ℕ) → j < i → rank-in work j ≡ length (members w0 j)
+  pub kept : Kept position-column w0 work
+  pub count : position ≡ length (members w0 i)
+  pub small : position ≤ i
+  pub positions : (j : ℕ) → j < i → slot-position work j ≡ length (members w0 j)
 
-pub ranking-none : (w0 : Bytes) (n : ℕ) → Ranking w0 w0 n 0 0
+pub positioning-none : (w0 : Bytes) (n : ℕ) → Positioning w0 w0 n 0 0
 unfolding members
-ranking-none w0 n =
-    record { few = omega arith; kept = kept-none rank-column w0; count = refl; small = omega arith; ranks = λ j h. absurd (let z : ⊥ = omega arith in z) }
+positioning-none w0 n =
+    record { few = omega arith; kept = kept-none position-column w0; count = refl; small = omega arith; positions = λ j h. absurd (let z : ⊥ = omega arith in z) }
 
-ranking-room : (w0 w : Bytes) (n rank i : ℕ) → 128 * n ≤ length w0 → Ranking w0 w n rank i → i < n → 128 * i + 128 ≤ length w
-ranking-room w0 w n rank i r t h = omega (arith, t .kept .size)
+positioning-room : (w0 w : Bytes) (n position i : ℕ) → 128 * n ≤ length w0 → Positioning w0 w n position i → i < n → 128 * i + 128 ≤ length w
+positioning-room w0 w n position i r t h = omega (arith, t .kept .size)
 
-pub ranking-size : (w0 w : Bytes) (n rank i : ℕ) → Ranking w0 w n rank i → length w ≡ length w0
-ranking-size w0 w n rank i t = t .kept .size
+pub positioning-size : (w0 w : Bytes) (n position i : ℕ) → Positioning w0 w n position i → length w ≡ length w0
+positioning-size w0 w n position i t = t .kept .size
 
 few-absent : (n i : ℕ) → n ≤ absent → i ≤ n → i ≤ 65535
 unfolding absent
 few-absent n i h k = omega arith
 
-module _ (w0 w w′ : Bytes) (n rank i c : ℕ) (room : 128 * n ≤ length w0) (small : n ≤ absent) (t : Ranking w0 w n rank i) (h : i < n)
-    (e : w′ ≡ written w (128 * i + 124) (encode 4 rank)) (more : c ≡ cond (is-marked w′ i) 1 0) where
+module _ (w0 w w′ : Bytes) (n position i c : ℕ) (room : 128 * n ≤ length w0) (small : n ≤ absent) (t : Positioning w0 w n position i) (h : i < n)
+    (e : w′ ≡ written w (128 * i + 124) (encode 4 position)) (more : c ≡ cond (is-marked w′ i) 1 0) where
   here : 128 * i + 128 ≤ length w
-  here = ranking-room w0 w n rank i room t h
+  here = positioning-room w0 w n position i room t h
 
-  kept′ : Kept rank-column w0 w′
+  kept′ : Kept position-column w0 w′
   kept′ =
-      kept-then rank-column w0 w w′ (t .kept)
-      (rw e (kept-written w i 124 (encode 4 rank) 4 (length-encode 4 rank) here (lit≤ tt) 124 128 (lit≤ tt) (lit≤ tt)))
+      kept-then position-column w0 w w′ (t .kept)
+      (rw e (kept-written w i 124 (encode 4 position) 4 (length-encode 4 position) here (lit≤ tt) 124 128 (lit≤ tt) (lit≤ tt)))
 
-  rank-put : rank-in w′ i ≡ rank
-  unfolding rank-in
-  rank-put = ap (λ (x : Bytes). field 4 x (128 * i + 124)) e ∙ field-written 4 w (128 * i + 124) rank (omega arith) (let z = few-absent n i small (omega arith) in omega (arith, t .small))
+  slot-position-put : slot-position w′ i ≡ position
+  unfolding slot-position
+  slot-position-put = ap (λ (x : Bytes). field 4 x (128 * i + 124)) e ∙ field-written 4 w (128 * i + 124) position (omega arith) (let z = few-absent n i small (omega arith) in omega (arith, t .small))
 
-  rank-other : (j : ℕ) → (j ≡ i → ⊥) → rank-in w′ j ≡ rank-in w j
-  unfolding rank-in
-  rank-other j d =
+  slot-position-other : (j : ℕ) → (j ≡ i → ⊥) → slot-position w′ j ≡ slot-position w j
+  unfolding slot-position
+  slot-position-other j d =
       ap (λ (x : Bytes). field 4 x (128 * j + 124)) e
-      ∙ field-apart-slot w i 124 (encode 4 rank) 4 (length-encode 4 rank) here (lit≤ tt) j 124 4 d (lit≤ tt)
+      ∙ field-apart-slot w i 124 (encode 4 position) 4 (length-encode 4 position) here (lit≤ tt) j 124 4 d (lit≤ tt)
 
-  pub ranking-more : Ranking w0 w′ n (rank + c) (i + 1)
-  ranking-more =
+  pub positioning-more : Positioning w0 w′ n (position + c) (i + 1)
+  positioning-more =
       let o = one-at-most (is-marked w′ i) c more in
       record {
         few = omega arith;
         kept = kept′;
         count =
-            ap₂ (λ (x y : ℕ). x + y) (t .count) (more ∙ ap (λ (b : Bool). cond b 1 0) (marked-kept rank-column w0 w′ kept′ tt i))
+            ap₂ (λ (x y : ℕ). x + y) (t .count) (more ∙ ap (λ (b : Bool). cond b 1 0) (marked-kept position-column w0 w′ kept′ tt i))
             ∙ sym (count-more w0 i) ∙ ap (λ (k : ℕ). length (members w0 k)) (sym (add-one i));
         small = omega (arith, t .small);
-        ranks = λ j k. go j k (ℕ-discrete j i);
+        positions = λ j k. go j k (ℕ-discrete j i);
       }
     where
-      go : (j : ℕ) → j < i + 1 → Dec (j ≡ i) → rank-in w′ j ≡ length (members w0 j)
-      go j k (yes d) = ap (rank-in w′) d ∙ rank-put ∙ t .count ∙ ap (λ (x : ℕ). length (members w0 x)) (sym d)
-      go j k (no d) = rank-other j d ∙ t .ranks j (omega arith)
+      go : (j : ℕ) → j < i + 1 → Dec (j ≡ i) → slot-position w′ j ≡ length (members w0 j)
+      go j k (yes d) = ap (slot-position w′) d ∙ slot-position-put ∙ t .count ∙ ap (λ (x : ℕ). length (members w0 x)) (sym d)
+      go j k (no d) = slot-position-other j d ∙ t .positions j (omega arith)
 
-pub rank-fits : (w0 w w′ : Bytes) (n rank i c : ℕ) → n ≤ absent → Ranking w0 w n rank i → i < n → c ≡ cond (is-marked w′ i) 1 0 → rank + c < 2 ^ 32
-rank-fits w0 w w′ n rank i c small t h e =
+pub position-fits : (w0 w w′ : Bytes) (n position i c : ℕ) → n ≤ absent → Positioning w0 w n position i → i < n → c ≡ cond (is-marked w′ i) 1 0 → position + c < 2 ^ 32
+position-fits w0 w w′ n position i c small t h e =
     let o = one-at-most (is-marked w′ i) c e in let z = few-absent n i small (omega arith) in omega (arith, t .small)
 
-pub ranking-all : (w0 w : Bytes) (n rank i : ℕ) → n ≤ i → Ranking w0 w n rank i → RanksDone w0 w n
-ranking-all w0 w n rank i h t =
+pub positioning-all : (w0 w : Bytes) (n position i : ℕ) → n ≤ i → Positioning w0 w n position i → PositionsDone w0 w n
+positioning-all w0 w n position i h t =
     record {
       kept = t .kept;
-      ranks = λ j k. t .ranks j (omega arith) ∙ ap length (sym (members-same w0 w j (λ q. marked-kept rank-column w0 w (t .kept) tt q)));
+      positions = λ j k. t .positions j (omega arith) ∙ ap length (sym (members-same w0 w j (λ q. marked-kept position-column w0 w (t .kept) tt q)));
     }
 
 -- ---- the number of all records
 
-module _ (work : Bytes) (n : ℕ) (t : Ranked work n) (some : 0 < n) where
-  pub all-counted : (r c : ℕ) → r ≡ rank-in work (n - 1) → c ≡ cond (is-marked work (n - 1)) 1 0 → r + c ≡ length (members work n)
+module _ (work : Bytes) (n : ℕ) (t : Positioned work n) (some : 0 < n) where
+  pub all-counted : (r c : ℕ) → r ≡ slot-position work (n - 1) → c ≡ cond (is-marked work (n - 1)) 1 0 → r + c ≡ length (members work n)
   all-counted r c e f =
-      ap₂ (λ (x y : ℕ). x + y) (e ∙ t .ranks (n - 1) (omega arith)) f ∙ sym (count-more work (n - 1))
+      ap₂ (λ (x y : ℕ). x + y) (e ∙ t .positions (n - 1) (omega arith)) f ∙ sym (count-more work (n - 1))
       ∙ ap (λ (k : ℕ). length (members work k)) (let z : suc (n - 1) ≡ n = omega arith in z)
 
-  pub count-fits : (r c : ℕ) (b : Bool) → r ≡ rank-in work (n - 1) → c ≡ cond b 1 0 → r + c < 2 ^ 32
+  pub count-fits : (r c : ℕ) (b : Bool) → r ≡ slot-position work (n - 1) → c ≡ cond b 1 0 → r + c < 2 ^ 32
   count-fits r c b e f =
       let z = few-absent n n (t .ready .few) (omega arith) in
-      let k = t .ranks (n - 1) (omega arith) in
+      let k = t .positions (n - 1) (omega arith) in
       omega (arith, one-at-most b c f, count-few work (n - 1))
 
--- ---- ranks are positions
+-- ---- as the definition counts them
 
 position-snoc : (q a : ℕ) (l : List ℕ) → position-in q (l ++ (a ∷ [])) ≡ position-in q l + cond (ltb a q) 1 0
 unfolding position-in

@@ -20,8 +20,8 @@ use Rattle.graph.proofs.Slots.{kept-then, kept-also, kept-first}
 use Rattle.graph.proofs.Nodes.{map-length, node-at-nodes, nodes-kept}
 use Rattle.graph.proofs.Strings.{joined-append, previous-before, source-before}
 use Rattle.marks.specs.Marks.{is-marked}
-use Rattle.trace_writer.specs.Marks.{rank-column, is-inside, rank-in, members, MarksDone, RanksDone, Ranked, Prepared}
-use Rattle.trace_writer.specs.Texts.{ranked-edges, record-with, slot-string, slot-strings, slots-trace, Width, TraceLength}
+use Rattle.trace_writer.specs.Marks.{position-column, is-inside, slot-position, members, MarksDone, PositionsDone, Positioned, Prepared}
+use Rattle.trace_writer.specs.Texts.{slot-edges, record-with, slot-string, slot-strings, slots-trace, Width, TraceLength}
 use Rattle.marks.proofs.Marking.{marked-kept}
 use Rattle.trace_writer.proofs.Marking.{members-same, members-elem}
 use Rattle.trace_writer.proofs.Edges.{and-left, edges-agree}
@@ -62,27 +62,27 @@ pub tested : (work : Bytes) (i p s : ℕ) (b c : Bool) → p ≡ field 2 work (1
 tested work i p s b c ep es eb ec = record { previous = ep; source = es; first = eb; second = ec }
 
 pub edges-are : (work : Bytes) (i p s : ℕ) (b c : Bool) → Tested work i p s b c
-    → some-edges b c (rank-in work p) (field 1 work (128 * i + 80)) (rank-in work s) ≡ ranked-edges work i
-unfolding ranked-edges
+    → some-edges b c (slot-position work p) (field 1 work (128 * i + 80)) (slot-position work s) ≡ slot-edges work i
+unfolding slot-edges
 edges-are work i p s b c t =
     ap₂ (λ (x y : List InEdge). x ++ y)
-    (ap (λ (x : Bool). cond x (temporal (rank-in work p) ∷ []) []) (t .first)
-    ∙ ap (λ (x : ℕ). cond (is-inside work x) (temporal (rank-in work x) ∷ []) []) (t .previous))
-    (ap (λ (x : Bool). cond x (dependency (field 1 work (128 * i + 80)) (rank-in work s) ∷ []) []) (t .second)
-    ∙ ap (λ (x : ℕ). cond (is-inside work x) (dependency (field 1 work (128 * i + 80)) (rank-in work x) ∷ []) []) (t .source))
+    (ap (λ (x : Bool). cond x (temporal (slot-position work p) ∷ []) []) (t .first)
+    ∙ ap (λ (x : ℕ). cond (is-inside work x) (temporal (slot-position work x) ∷ []) []) (t .previous))
+    (ap (λ (x : Bool). cond x (dependency (field 1 work (128 * i + 80)) (slot-position work s) ∷ []) []) (t .second)
+    ∙ ap (λ (x : ℕ). cond (is-inside work x) (dependency (field 1 work (128 * i + 80)) (slot-position work x) ∷ []) []) (t .source))
 
 pub record-width-is : (way : question.Way) (work : Bytes) (i p s : ℕ) (b c : Bool) → Tested work i p s b c
-    → length (record-with way work i (ranked-edges work i)) ≡ width b c
+    → length (record-with way work i (slot-edges work i)) ≡ width b c
 record-width-is way work i p s b c t =
     ap (λ (es : List InEdge). length (record-with way work i es)) (sym (edges-are work i p s b c t)) ∙ width-is way work i b c _ _ _
 
-pub slot-marked : (way : question.Way) (work : Bytes) (i : ℕ) (m : Bool) → m ≡ is-marked work i → m ≡ true → record-with way work i (ranked-edges work i) ≡ slot-string way work i
+pub slot-marked : (way : question.Way) (work : Bytes) (i : ℕ) (m : Bool) → m ≡ is-marked work i → m ≡ true → record-with way work i (slot-edges work i) ≡ slot-string way work i
 unfolding slot-string
-slot-marked way work i m e t = ap {B = Bytes} (λ (x : Bool). cond x (record-with way work i (ranked-edges work i)) []) (sym t ∙ e)
+slot-marked way work i m e t = ap {B = Bytes} (λ (x : Bool). cond x (record-with way work i (slot-edges work i)) []) (sym t ∙ e)
 
 pub slot-unmarked : (way : question.Way) (work : Bytes) (i : ℕ) (m : Bool) → m ≡ is-marked work i → m ≡ false → [] ≡ slot-string way work i
 unfolding slot-string
-slot-unmarked way work i m e f = ap {B = Bytes} (λ (x : Bool). cond x (record-with way work i (ranked-edges work i)) []) (sym f ∙ e)
+slot-unmarked way work i m e f = ap {B = Bytes} (λ (x : Bool). cond x (record-with way work i (slot-edges work i)) []) (sym f ∙ e)
 
 pub width-marked : (work : Bytes) (i p s : ℕ) (m b c : Bool) (r : ℕ) → m ≡ is-marked work i → m ≡ true → p ≡ field 2 work (128 * i + 76) → b ≡ is-inside work p
     → s ≡ field 2 work (128 * i + 78) → c ≡ is-inside work s → r ≡ width b c → Width work i r
@@ -139,45 +139,45 @@ named-alike letter m n (f ∷ []) e t = ap₂ (λ (x y : ℕ). one-edge-string (
 named-alike letter m n (f ∷ g ∷ es) e t =
     ap₂ (λ (x y : ℕ). 0x56 ∷ joined (encode 4 x ∷ encode 8 y ∷ encode 1 (g .kind) ∷ encode 4 (f .start) ∷ encode 4 (g .start) ∷ [])) e t
 
-module _ (work : Bytes) (n : ℕ) (t : Ranked work n) where
+module _ (work : Bytes) (n : ℕ) (t : Positioned work n) where
   ns : List VersionNode
   ns = nodes-in work n
 
   ms : List ℕ
   ms = members work n
 
-  rank-position : (p : ℕ) → p < n → position-in p ms ≡ rank-in work p
+  position-of-slot : (p : ℕ) → p < n → position-in p ms ≡ slot-position work p
   unfolding ms
-  rank-position p h = position-members work p n (omega arith) ∙ sym (t .ranks p h)
+  position-of-slot p h = position-members work p n (omega arith) ∙ sym (t .positions p h)
 
   -- an edge that starts inside
-  moved-to-rank : (p : ℕ) → (p < absent → p < n) → (f : ℕ → InEdge)
-      → cond (is-inside work p) (f (position-in p ms) ∷ []) [] ≡ cond (is-inside work p) (f (rank-in work p) ∷ []) []
+  moved-to-position : (p : ℕ) → (p < absent → p < n) → (f : ℕ → InEdge)
+      → cond (is-inside work p) (f (position-in p ms) ∷ []) [] ≡ cond (is-inside work p) (f (slot-position work p) ∷ []) []
   unfolding is-inside
-  moved-to-rank p h f = go (is-inside work p) (λ e. rank-position p (h (ltb-true p absent (and-left (ltb p absent) (is-marked work p) e))))
+  moved-to-position p h f = go (is-inside work p) (λ e. position-of-slot p (h (ltb-true p absent (and-left (ltb p absent) (is-marked work p) e))))
     where
-      go : (b : Bool) → (b ≡ true → position-in p ms ≡ rank-in work p) → cond b (f (position-in p ms) ∷ []) [] ≡ cond b (f (rank-in work p) ∷ []) []
+      go : (b : Bool) → (b ≡ true → position-in p ms ≡ slot-position work p) → cond b (f (position-in p ms) ∷ []) [] ≡ cond b (f (slot-position work p) ∷ []) []
       go true e = ap (λ (x : ℕ). f x ∷ []) (e refl)
       go false e = refl
 
-  edges-by-rank : (i : ℕ) → i < n → edges-inside ms (node-in work i .in-edges) ≡ ranked-edges work i
-  unfolding ranked-edges ms
-  edges-by-rank i h =
+  edges-by-position : (i : ℕ) → i < n → edges-inside ms (node-in work i .in-edges) ≡ slot-edges work i
+  unfolding slot-edges ms
+  edges-by-position i h =
       let st = starts-at work n i h (t .ready) in
       let p = field 2 work (128 * i + 76) in
       let s = field 2 work (128 * i + 78) in
       let k = field 1 work (128 * i + 80) in
       edges-agree work i st ms (λ j l. members-elem work n j (omega arith))
-      ∙ ap₂ (λ (x y : List InEdge). x ++ y) (moved-to-rank p (λ l. let z = previous-before work i st p refl l in omega arith) temporal)
-      (moved-to-rank s (λ l. let z = source-before work i st s refl l in omega arith) (dependency k))
+      ∙ ap₂ (λ (x y : List InEdge). x ++ y) (moved-to-position p (λ l. let z = previous-before work i st p refl l in omega arith) temporal)
+      (moved-to-position s (λ l. let z = source-before work i st s refl l in omega arith) (dependency k))
 
-  record-same : (way : question.Way) (i : ℕ) → i < n → record-string way (node-inside ns ms i) ≡ record-with way work i (ranked-edges work i)
+  record-same : (way : question.Way) (i : ℕ) → i < n → record-string way (node-inside ns ms i) ≡ record-with way work i (slot-edges work i)
   unfolding record-string node-inside record-with ns
   record-same way i h =
       let same : node-at (nodes-in work n) i ≡ node-in work i = node-at-nodes work n i h in
       named-alike (entry-letter way) (node-inside ns ms i) (node-in work i) (edges-inside ms (node-at (nodes-in work n) i .in-edges))
       (ap (λ (x : VersionNode). x .entity) same) (ap (λ (x : VersionNode). x .time) same)
-      ∙ ap (record-string-by (entry-letter way) (node-in work i)) (ap (λ (x : VersionNode). edges-inside ms (x .in-edges)) same ∙ edges-by-rank i h)
+      ∙ ap (record-string-by (entry-letter way) (node-in work i)) (ap (λ (x : VersionNode). edges-inside ms (x .in-edges)) same ∙ edges-by-position i h)
 
   abbrev strings : question.Way → List ℕ → Bytes
   strings way l = joined (map (record-string way) (map (node-inside ns ms) l))
@@ -194,7 +194,7 @@ module _ (work : Bytes) (n : ℕ) (t : Ranked work n) where
   records-are way zero h = refl
   records-are way (suc i) h = ap (λ (x : Bytes). x ++ slot-string way work i) (records-are way i (omega arith)) ∙ go (is-marked work i)
     where
-      go : (b : Bool) → strings way (members work i) ++ cond b (record-with way work i (ranked-edges work i)) [] ≡ strings way (cond b (members work i ++ (i ∷ [])) (members work i))
+      go : (b : Bool) → strings way (members work i) ++ cond b (record-with way work i (slot-edges work i)) [] ≡ strings way (cond b (members work i ++ (i ∷ [])) (members work i))
       go true = ap (λ (x : Bytes). strings way (members work i) ++ x) (sym (record-same way i (omega arith))) ∙ sym (strings-snoc way (members work i) i)
       go false = append-nil (strings way (members work i))
 
@@ -206,15 +206,15 @@ module _ (work : Bytes) (n : ℕ) (t : Ranked work n) where
       ∙ ap (λ (l : List ℕ). trace-string way (map (node-inside (nodes-in work n) l) l)) e
 
 pub trace-is : (way : question.Way) (work : Bytes) (n v : ℕ) → Prepared way work n v → slots-trace way work n ≡ trace-string way (trace way (nodes-in work n) v)
-trace-is way work n v p = trace-by-slots work n (p .ranked) way v (p .versions)
+trace-is way work n v p = trace-by-slots work n (p .positioned) way v (p .versions)
 
 -- ---- a table that is prepared
 
-module _ (way : question.Way) (work w1 w2 : Bytes) (n v : ℕ) (ready : Ready work n) (here : v < n) (m : MarksDone way work w1 n v) (r : RanksDone w1 w2 n) where
+module _ (way : question.Way) (work w1 w2 : Bytes) (n v : ℕ) (ready : Ready work n) (here : v < n) (m : MarksDone way work w1 n v) (r : PositionsDone w1 w2 n) where
   pub both-kept : Kept (columns 81 82 ∷ columns 124 128 ∷ []) work w2
   both-kept =
-      kept-then (columns 81 82 ∷ columns 124 128 ∷ []) work w1 w2 (kept-first rank-column (columns 81 82) work w1 (m .kept))
-      (kept-also rank-column (columns 81 82) w1 w2 (r .kept))
+      kept-then (columns 81 82 ∷ columns 124 128 ∷ []) work w1 w2 (kept-first position-column (columns 81 82) work w1 (m .kept))
+      (kept-also position-column (columns 81 82) w1 w2 (r .kept))
 
   same-graph : nodes-in w2 n ≡ nodes-in work n
   same-graph = nodes-kept (columns 81 82 ∷ columns 124 128 ∷ []) work w2 both-kept tt n
@@ -222,10 +222,10 @@ module _ (way : question.Way) (work w1 w2 : Bytes) (n v : ℕ) (ready : Ready wo
   pub is-prepared : Prepared way w2 n v
   is-prepared =
       record {
-        ranked = record { ready = ready-kept (columns 81 82 ∷ columns 124 128 ∷ []) work w2 n tt both-kept ready; ranks = r .ranks };
+        positioned = record { ready = ready-kept (columns 81 82 ∷ columns 124 128 ∷ []) work w2 n tt both-kept ready; positions = r .positions };
         here = here;
         versions =
-            members-same w1 w2 n (λ j. marked-kept rank-column w1 w2 (r .kept) tt j) ∙ m .versions
+            members-same w1 w2 n (λ j. marked-kept position-column w1 w2 (r .kept) tt j) ∙ m .versions
             ∙ ap (λ (l : List VersionNode). trace-versions way l v) (sym same-graph);
       }
 
@@ -234,4 +234,4 @@ module _ (way : question.Way) (work w1 w2 : Bytes) (n v : ℕ) (ready : Ready wo
       t .is way ∙ ap length (trace-is way w2 n v is-prepared) ∙ ap (λ (x : List VersionNode). length (trace-string way (trace way x v))) same-graph
 
   pub prepared-ready : Ready w2 n
-  prepared-ready = is-prepared .ranked .ready
+  prepared-ready = is-prepared .positioned .ready

@@ -29,7 +29,7 @@ use Rattle.graph.proofs.Slots.{kept-none, kept-then}
 use Rattle.graph.proofs.Nodes.{length-nodes, node-at-nodes, node-kept, nodes-kept}
 use Rattle.graph.proofs.Incoming.{starts}
 use Rattle.marks.specs.Marks.{mark-column, is-marked, MarkSet, StartsMarked}
-use Rattle.trace_writer.specs.Marks.{starts-inside, Begun, Spread, MarksDone}
+use Rattle.trace_writer.specs.Marks.{starts-inside, OnlyMarked, Spread, MarksDone}
 use Rattle.trace_writer.proofs.Marking.{no-T, members-are}
 use Rattle.trace_writer.proofs.Edges.{starts-agree}
 
@@ -83,13 +83,13 @@ pub record BackTurn (w0 work : Bytes) (n v i : ℕ) : Type 0 where
   pub done : (j : ℕ) → i ≤ j → j < n → is-marked work j ≡ elem j ms
   pub due : (j : ℕ) → j < i → is-marked work j ≡ referred (nodes-in work n) j ms
 
-begun-ready : (work w1 : Bytes) (n v : ℕ) → Ready work n → Begun work w1 n v → Ready w1 n
-begun-ready work w1 n v r b = ready-kept mark-column work w1 n tt (b .kept) r
+only-marked-ready : (work w1 : Bytes) (n v : ℕ) → Ready work n → OnlyMarked work w1 n v → Ready w1 n
+only-marked-ready work w1 n v r b = ready-kept mark-column work w1 n tt (b .kept) r
 
-pub begun-starts : (work w1 : Bytes) (n v : ℕ) → Ready work n → v < n → Begun work w1 n v → Starts w1 v
-begun-starts work w1 n v r h b = starts-at w1 n v h (begun-ready work w1 n v r b)
+pub only-marked-starts : (work w1 : Bytes) (n v : ℕ) → Ready work n → v < n → OnlyMarked work w1 n v → Starts w1 v
+only-marked-starts work w1 n v r h b = starts-at w1 n v h (only-marked-ready work w1 n v r b)
 
-pub back-none : (work w1 w2 : Bytes) (n v : ℕ) → Ready work n → v < n → Begun work w1 n v → StartsMarked w1 w2 v → BackTurn w2 w2 n v v
+pub back-none : (work w1 w2 : Bytes) (n v : ℕ) → Ready work n → v < n → OnlyMarked work w1 n v → StartsMarked w1 w2 v → BackTurn w2 w2 n v v
 unfolding ancestors referred
 back-none work w1 w2 n v r h b s =
     record {
@@ -109,7 +109,7 @@ back-none work w1 w2 n v r h b s =
     }
   where
     r1 : Ready w1 n
-    r1 = begun-ready work w1 n v r b
+    r1 = only-marked-ready work w1 n v r b
 
 absorb : (b c : Bool) → (b || (b && c)) ≡ b
 absorb true c = refl
@@ -208,7 +208,7 @@ back-starts w0 w n v i t h = starts-at w n (i - 1) (omega (arith, t .few, t .her
 pub back-more : (w0 w w′ : Bytes) (n v i : ℕ) → BackTurn w0 w n v i → 0 < i → Spread w w′ (i - 1) → BackTurn w0 w′ n v (i - 1)
 back-more w0 w w′ n v i t h s = back-step w0 w w′ n v (i - 1) (subst (BackTurn w0 w n v) (let z : i ≡ suc (i - 1) = omega arith in z) t) s
 
-pub back-all : (work w1 w0 w : Bytes) (n v i : ℕ) → Begun work w1 n v → StartsMarked w1 w0 v → i ≤ 0 → BackTurn w0 w n v i → MarksDone backward work w n v
+pub back-all : (work w1 w0 w : Bytes) (n v i : ℕ) → OnlyMarked work w1 n v → StartsMarked w1 w0 v → i ≤ 0 → BackTurn w0 w n v i → MarksDone backward work w n v
 unfolding add-ancestors trace-versions
 back-all work w1 w0 w n v i b s h t =
     let e : i ≡ 0 = omega arith in
@@ -229,11 +229,11 @@ pub record ForTurn (w0 work : Bytes) (n v i : ℕ) : Type 0 where
   pub below : (m : ℕ) → m among ms → m < i
   pub done : (j : ℕ) → j < i → is-marked work j ≡ elem j ms
 
-pub for-none : (work w1 : Bytes) (n v : ℕ) → Ready work n → v < n → Begun work w1 n v → ForTurn w1 w1 n v (v + 1)
+pub for-none : (work w1 : Bytes) (n v : ℕ) → Ready work n → v < n → OnlyMarked work w1 n v → ForTurn w1 w1 n v (v + 1)
 unfolding descendants
 for-none work w1 n v r h b =
     record {
-      ready = begun-ready work w1 n v r b;
+      ready = only-marked-ready work w1 n v r b;
       few = omega arith;
       low = omega arith;
       kept = kept-none mark-column w1;
@@ -311,7 +311,7 @@ module _ (w0 w w′ : Bytes) (n v i : ℕ) (r : Bool) (t : ForTurn w0 w n v i) (
         done = λ j k. done″ j k (ℕ-discrete j i);
       }
 
-pub for-all : (work w0 w : Bytes) (n v i : ℕ) → Begun work w0 n v → n ≤ i → ForTurn w0 w n v i → MarksDone forward work w n v
+pub for-all : (work w0 w : Bytes) (n v i : ℕ) → OnlyMarked work w0 n v → n ≤ i → ForTurn w0 w n v i → MarksDone forward work w n v
 unfolding add-descendants trace-versions
 for-all work w0 w n v i b h t =
     marks-done forward work w n v (t .ms) (kept-then mark-column work w0 w (b .kept) (t .kept)) (t .ready) (omega (arith, t .low, t .few))

@@ -23,8 +23,8 @@ use Rattle.graph.specs.Links.{name-string, Starts}
 use Rattle.graph.proofs.Slots.{Wrote, wrote, and-behind}
 use Rattle.graph.proofs.Strings.{encode-byte, length-name}
 use Rattle.marks.specs.Marks.{is-marked}
-use Rattle.trace_writer.specs.Marks.{is-inside, rank-in, members, Prepared}
-use Rattle.trace_writer.specs.Texts.{ranked-edges, record-with, slot-string, slot-strings, slots-trace, RecordPut, Put, Room, Fits}
+use Rattle.trace_writer.specs.Marks.{is-inside, slot-position, members, Prepared}
+use Rattle.trace_writer.specs.Texts.{slot-edges, record-with, slot-string, slot-strings, slots-trace, RecordWritten, Put, Room, Fits}
 use Rattle.marks.proofs.Edges.{previous-stands, source-stands}
 use Rattle.trace_writer.proofs.Edges.{inside-there}
 use Rattle.trace_writer.proofs.Searching.{starts-at}
@@ -59,20 +59,20 @@ pub kind-put : (out : Bytes) (at : ℕ) (work : Bytes) (i k : ℕ) → at + 1 �
     → set out at k ≡ written out at (encode 1 (field 1 work (128 * i + 80)))
 kind-put out at work i k r h e = set-written out at k (omega arith) ∙ ap (written out at) (sym (encode-byte k h) ∙ ap (encode 1) e)
 
-pub position-put : (out o : Bytes) (at : ℕ) (work : Bytes) (p r : ℕ) → r ≡ rank-in work p → o ≡ written out at (encode 4 r) → o ≡ written out at (encode 4 (rank-in work p))
+pub position-put : (out o : Bytes) (at : ℕ) (work : Bytes) (p r : ℕ) → r ≡ slot-position work p → o ≡ written out at (encode 4 r) → o ≡ written out at (encode 4 (slot-position work p))
 position-put out o at work p r e f = f ∙ ap (λ (x : ℕ). written out at (encode 4 x)) e
 
 module _ (work : Bytes) (i : ℕ) (out o1 : Bytes) (at letter : ℕ) (named : o1 ≡ written out at (letter ∷ name-string (node-in work i))) where
   begins : at + 13 ≤ length out → Wrote out at (letter ∷ name-string (node-in work i)) 13 o1
   begins r = wrote out at _ 13 o1 (ap suc (length-name (node-in work i))) r named
 
-  pub temporal-put : (o2 : Bytes) (p : ℕ) → letter ≡ 84 → at + 17 ≤ length out → o2 ≡ written o1 (at + 13) (encode 4 (rank-in work p))
-      → RecordPut work i (temporal (rank-in work p) ∷ []) out o2 at
+  pub temporal-put : (o2 : Bytes) (p : ℕ) → letter ≡ 84 → at + 17 ≤ length out → o2 ≡ written o1 (at + 13) (encode 4 (slot-position work p))
+      → RecordWritten work i (temporal (slot-position work p) ∷ []) out o2 at
   unfolding record-with record-string-by one-edge-string name-string
   temporal-put o2 p l r e =
       record {
         is = λ way.
-            and-behind out at _ 13 o1 _ 4 (at + 13) o2 (begins (omega arith)) refl (length-encode 4 (rank-in work p)) (omega arith) e .done
+            and-behind out at _ 13 o1 _ 4 (at + 13) o2 (begins (omega arith)) refl (length-encode 4 (slot-position work p)) (omega arith) e .done
             ∙ ap (written out at) (rw l (simp (append-assoc, append-nil)));
       }
 
@@ -80,25 +80,25 @@ module _ (work : Bytes) (i : ℕ) (out o1 : Bytes) (at letter : ℕ) (named : o1
     with-kind : at + 14 ≤ length out → Wrote out at ((letter ∷ name-string (node-in work i)) ++ encode 1 (field 1 work (128 * i + 80))) 14 o2
     with-kind r = and-behind out at _ 13 o1 _ 1 (at + 13) o2 (begins (omega arith)) refl (length-encode 1 (field 1 work (128 * i + 80))) (omega arith) kind
 
-    pub dependency-put : (o3 : Bytes) (s : ℕ) → letter ≡ 68 → at + 18 ≤ length out → o3 ≡ written o2 (at + 14) (encode 4 (rank-in work s))
-        → RecordPut work i (dependency (field 1 work (128 * i + 80)) (rank-in work s) ∷ []) out o3 at
+    pub dependency-put : (o3 : Bytes) (s : ℕ) → letter ≡ 68 → at + 18 ≤ length out → o3 ≡ written o2 (at + 14) (encode 4 (slot-position work s))
+        → RecordWritten work i (dependency (field 1 work (128 * i + 80)) (slot-position work s) ∷ []) out o3 at
     unfolding record-with record-string-by one-edge-string name-string
     dependency-put o3 s l r e =
         record {
           is = λ way.
-              and-behind out at _ 14 o2 _ 4 (at + 14) o3 (with-kind (omega arith)) refl (length-encode 4 (rank-in work s)) (omega arith) e .done
+              and-behind out at _ 14 o2 _ 4 (at + 14) o3 (with-kind (omega arith)) refl (length-encode 4 (slot-position work s)) (omega arith) e .done
               ∙ ap (written out at) (rw l (simp (append-assoc, append-nil)));
         }
 
-    pub both-put : (o3 o4 : Bytes) (p s : ℕ) → letter ≡ 86 → at + 22 ≤ length out → o3 ≡ written o2 (at + 14) (encode 4 (rank-in work p))
-        → o4 ≡ written o3 (at + 18) (encode 4 (rank-in work s))
-        → RecordPut work i (temporal (rank-in work p) ∷ dependency (field 1 work (128 * i + 80)) (rank-in work s) ∷ []) out o4 at
+    pub both-put : (o3 o4 : Bytes) (p s : ℕ) → letter ≡ 86 → at + 22 ≤ length out → o3 ≡ written o2 (at + 14) (encode 4 (slot-position work p))
+        → o4 ≡ written o3 (at + 18) (encode 4 (slot-position work s))
+        → RecordWritten work i (temporal (slot-position work p) ∷ dependency (field 1 work (128 * i + 80)) (slot-position work s) ∷ []) out o4 at
     unfolding record-with record-string-by name-string
     both-put o3 o4 p s l r e f =
-        let x = and-behind out at _ 14 o2 _ 4 (at + 14) o3 (with-kind (omega arith)) refl (length-encode 4 (rank-in work p)) (omega arith) e in
+        let x = and-behind out at _ 14 o2 _ 4 (at + 14) o3 (with-kind (omega arith)) refl (length-encode 4 (slot-position work p)) (omega arith) e in
         record {
           is = λ way.
-              and-behind out at _ 18 o3 _ 4 (at + 18) o4 x refl (length-encode 4 (rank-in work s)) (omega arith) f .done
+              and-behind out at _ 18 o3 _ 4 (at + 18) o4 x refl (length-encode 4 (slot-position work s)) (omega arith) f .done
               ∙ ap (written out at) (rw l (simp (append-assoc, append-nil)));
         }
 
@@ -110,7 +110,7 @@ entry-put way work i out o at letter l e = e ∙ ap (written out at) (rw l (simp
 -- ---- the record of a marked slot
 
 module _ (way : question.Way) (work : Bytes) (i : ℕ) (out : Bytes) (at p s : ℕ) (b c : Bool) (st : Starts work i)
-    (room : at + length (record-with way work i (ranked-edges work i)) ≤ length out) (ep : p ≡ field 2 work (128 * i + 76)) (es : s ≡ field 2 work (128 * i + 78))
+    (room : at + length (record-with way work i (slot-edges work i)) ≤ length out) (ep : p ≡ field 2 work (128 * i + 76)) (es : s ≡ field 2 work (128 * i + 78))
     (eb : b ≡ is-inside work p) (ec : c ≡ is-inside work s) where
   test : Tested work i p s b c
   test = tested work i p s b c ep es eb ec
@@ -118,7 +118,7 @@ module _ (way : question.Way) (work : Bytes) (i : ℕ) (out : Bytes) (at p s : �
   -- its bytes, by the two tests
   fits-by : (x y : Bool) → b ≡ x → c ≡ y → at + width x y ≤ length out
   fits-by x y hx hy =
-      let w : length (record-with way work i (ranked-edges work i)) ≡ width x y = record-width-is way work i p s b c test ∙ ap₂ width hx hy in omega arith
+      let w : length (record-with way work i (slot-edges work i)) ≡ width x y = record-width-is way work i p s b c test ∙ ap₂ width hx hy in omega arith
 
   from-previous : b ≡ true → 128 * p + 128 ≤ length work
   from-previous = inside-there work p b (previous-stands work i st p ep) eb
@@ -126,14 +126,14 @@ module _ (way : question.Way) (work : Bytes) (i : ℕ) (out : Bytes) (at p s : �
   from-source : c ≡ true → 128 * s + 128 ≤ length work
   from-source = inside-there work s c (source-stands work i st s es) ec
 
-  put-by : (x y : Bool) (o : Bytes) → b ≡ x → c ≡ y → o ≡ written out at (record-with way work i (some-edges x y (rank-in work p) (field 1 work (128 * i + 80)) (rank-in work s)))
-      → Put out o at (at + width x y) (record-with way work i (ranked-edges work i))
+  put-by : (x y : Bool) (o : Bytes) → b ≡ x → c ≡ y → o ≡ written out at (record-with way work i (some-edges x y (slot-position work p) (field 1 work (128 * i + 80)) (slot-position work s)))
+      → Put out o at (at + width x y) (record-with way work i (slot-edges work i))
   put-by x y o hx hy e =
       record {
         done =
             e
             ∙ ap (λ (l : List InEdge). written out at (record-with way work i l))
-            (ap₂ (λ (u v : Bool). some-edges u v (rank-in work p) (field 1 work (128 * i + 80)) (rank-in work s)) (sym hx) (sym hy) ∙ edges-are work i p s b c test);
+            (ap₂ (λ (u v : Bool). some-edges u v (slot-position work p) (field 1 work (128 * i + 80)) (slot-position work s)) (sym hx) (sym hy) ∙ edges-are work i p s b c test);
         behind = ap (λ (z : ℕ). at + z) (sym (record-width-is way work i p s b c test ∙ ap₂ width hx hy));
       }
 
@@ -142,36 +142,36 @@ module _ (way : question.Way) (work : Bytes) (i : ℕ) (out : Bytes) (at p s : �
   both-ask hb hc = (st .room, from-previous hb, from-source hc, fits-by true true hb hc)
 
   pub both-done : (o : Bytes) → b ≡ true → c ≡ true
-      → RecordPut work i (temporal (rank-in work p) ∷ dependency (field 1 work (128 * i + 80)) (rank-in work s) ∷ []) out o at
-      → Put out o at (at + 22) (record-with way work i (ranked-edges work i))
+      → RecordWritten work i (temporal (slot-position work p) ∷ dependency (field 1 work (128 * i + 80)) (slot-position work s) ∷ []) out o at
+      → Put out o at (at + 22) (record-with way work i (slot-edges work i))
   both-done o hb hc d = put-by true true o hb hc (d .is way)
 
   pub temporal-ask : b ≡ true → c ≡ false → (128 * i + 128 ≤ length work) × (128 * p + 128 ≤ length work) × (at + 17 ≤ length out)
   temporal-ask hb hc = (st .room, from-previous hb, fits-by true false hb hc)
 
-  pub temporal-done : (o : Bytes) → b ≡ true → c ≡ false → RecordPut work i (temporal (rank-in work p) ∷ []) out o at
-      → Put out o at (at + 17) (record-with way work i (ranked-edges work i))
+  pub temporal-done : (o : Bytes) → b ≡ true → c ≡ false → RecordWritten work i (temporal (slot-position work p) ∷ []) out o at
+      → Put out o at (at + 17) (record-with way work i (slot-edges work i))
   temporal-done o hb hc d = put-by true false o hb hc (d .is way)
 
   pub dependency-ask : b ≡ false → c ≡ true → (128 * i + 128 ≤ length work) × (128 * s + 128 ≤ length work) × (at + 18 ≤ length out)
   dependency-ask hb hc = (st .room, from-source hc, fits-by false true hb hc)
 
-  pub dependency-done : (o : Bytes) → b ≡ false → c ≡ true → RecordPut work i (dependency (field 1 work (128 * i + 80)) (rank-in work s) ∷ []) out o at
-      → Put out o at (at + 18) (record-with way work i (ranked-edges work i))
+  pub dependency-done : (o : Bytes) → b ≡ false → c ≡ true → RecordWritten work i (dependency (field 1 work (128 * i + 80)) (slot-position work s) ∷ []) out o at
+      → Put out o at (at + 18) (record-with way work i (slot-edges work i))
   dependency-done o hb hc d = put-by false true o hb hc (d .is way)
 
   pub entry-ask : b ≡ false → c ≡ false → (128 * i + 128 ≤ length work) × (at + 13 ≤ length out)
   entry-ask hb hc = (st .room, fits-by false false hb hc)
 
   pub entry-done : (o : Bytes) (letter : ℕ) → b ≡ false → c ≡ false → letter ≡ entry-letter way → o ≡ written out at (letter ∷ name-string (node-in work i))
-      → Put out o at (at + 13) (record-with way work i (ranked-edges work i))
+      → Put out o at (at + 13) (record-with way work i (slot-edges work i))
   entry-done o letter hb hc l e = put-by false false o hb hc (entry-put way work i out o at letter l e)
 
 module _ (way : question.Way) (work : Bytes) (i : ℕ) (out : Bytes) (at : ℕ) (m : Bool) (e : m ≡ is-marked work i) where
-  pub slot-room : m ≡ true → at + length (slot-string way work i) ≤ length out → at + length (record-with way work i (ranked-edges work i)) ≤ length out
+  pub slot-room : m ≡ true → at + length (slot-string way work i) ≤ length out → at + length (record-with way work i (slot-edges work i)) ≤ length out
   slot-room t r = omega (arith, ap length (slot-marked way work i m e t))
 
-  pub slot-put : (o : Bytes) (r : ℕ) → m ≡ true → Put out o at r (record-with way work i (ranked-edges work i)) → Put out o at r (slot-string way work i)
+  pub slot-put : (o : Bytes) (r : ℕ) → m ≡ true → Put out o at r (record-with way work i (slot-edges work i)) → Put out o at r (slot-string way work i)
   slot-put o r t p = subst (Put out o at r) (slot-marked way work i m e t) p
 
   pub slot-empty : m ≡ false → Put out out at at (slot-string way work i)
@@ -255,7 +255,7 @@ module _ (way : question.Way) (work : Bytes) (n : ℕ) (out : Bytes) (fit : Fits
     header-size = ap length headed ∙ length-written (set out 0 letter) 1 (encode 4 count) (omega (arith, length-set-byte out 0 letter, length-encode 4 count, records-room)) ∙ length-set-byte out 0 letter
 
     pub records-ask : Room way work n (length o1)
-    records-ask = record { ready = fit .prepared .ranked .ready; enough = omega (arith, records-room, header-size) }
+    records-ask = record { ready = fit .prepared .positioned .ready; enough = omega (arith, records-room, header-size) }
 
     pub trace-size : (o2 : Bytes) → o2 ≡ written o1 5 (slot-strings way work n) → length o2 ≡ length out
     trace-size o2 e = ap length e ∙ length-written o1 5 (slot-strings way work n) (omega (arith, records-room, header-size)) ∙ header-size

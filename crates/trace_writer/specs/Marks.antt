@@ -1,5 +1,5 @@
--- The versions of a trace in the node table: their slots have a mark. Column 124 is a version's rank, 4 bytes: its position among the
--- records. Assumes nothing.
+-- The versions of a trace in the node table: their slots have a mark. Column 124 is a slot's position, 4 bytes: which record of the trace its
+-- version's is (document 01's "position"). Assumes nothing.
 use mathlib.Core.Path.{_≡_}
 use mathlib.Core.Bool.{Bool, cond, _&&_, _||_}
 use mathlib.Core.List.{List, [], _∷_, _++_}
@@ -13,16 +13,16 @@ use Rattle.model.specs.Trace.{refers, trace-versions}
 use Rattle.marks.specs.Marks.{mark-column, is-marked}
 use Rattle.graph.specs.Table.{slot-width, absent, previous-in, source-in, node-in, nodes-in, Ready, Columns, columns, Kept}
 
-abbrev pub rank-column : List Columns
-rank-column = columns 124 128 ∷ []
+abbrev pub position-column : List Columns
+position-column = columns 124 128 ∷ []
 
 -- all that preparing a trace writes to
 abbrev pub trace-columns : List Columns
 trace-columns = columns 81 82 ∷ columns 124 128 ∷ []
 
 -- what slot j says
-unfoldable pub rank-in : Bytes → ℕ → ℕ
-rank-in work j = field 4 work (slot-width * j + 124)
+unfoldable pub slot-position : Bytes → ℕ → ℕ
+slot-position work j = field 4 work (slot-width * j + 124)
 
 -- the marked ones of the first i slots
 unfoldable pub members : Bytes → ℕ → List ℕ
@@ -39,8 +39,8 @@ starts-inside work i = is-inside work (previous-in work i) || is-inside work (so
 
 -- ---- what a routine leaves
 
--- of the first n slots, v is marked
-pub record Begun (work work′ : Bytes) (n v : ℕ) : Type 0 where
+-- of the first n slots, just v is marked
+pub record OnlyMarked (work work′ : Bytes) (n v : ℕ) : Type 0 where
   pub kept : Kept mark-column work work′
   pub only : (j : ℕ) → j < n → is-marked work′ j ≡ eqb j v
 
@@ -54,18 +54,18 @@ pub record MarksDone (way : question.Way) (work work′ : Bytes) (n v : ℕ) : T
   pub kept : Kept mark-column work work′
   pub versions : members work′ n ≡ trace-versions way (nodes-in work n) v
 
--- every slot has its rank: the number of marked slots before it
-pub record RanksDone (work work′ : Bytes) (n : ℕ) : Type 0 where
-  pub kept : Kept rank-column work work′
-  pub ranks : (j : ℕ) → j < n → rank-in work′ j ≡ length (members work′ j)
+-- every slot has its position: the number of marked slots before it
+pub record PositionsDone (work work′ : Bytes) (n : ℕ) : Type 0 where
+  pub kept : Kept position-column work work′
+  pub positions : (j : ℕ) → j < n → slot-position work′ j ≡ length (members work′ j)
 
 -- so it is in a table that is ready
-pub record Ranked (work : Bytes) (n : ℕ) : Type 0 where
+pub record Positioned (work : Bytes) (n : ℕ) : Type 0 where
   pub ready : Ready work n
-  pub ranks : (j : ℕ) → j < n → rank-in work j ≡ length (members work j)
+  pub positions : (j : ℕ) → j < n → slot-position work j ≡ length (members work j)
 
--- marks and ranks stand for the trace from the version at v
+-- marks and positions stand for the trace from the version at v
 pub record Prepared (way : question.Way) (work : Bytes) (n v : ℕ) : Type 0 where
-  pub ranked : Ranked work n
+  pub positioned : Positioned work n
   pub here : v < n
   pub versions : members work n ≡ trace-versions way (nodes-in work n) v

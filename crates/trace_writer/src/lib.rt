@@ -2,11 +2,11 @@
 use fields::get_u32;
 use fields::put_u32;
 use graph::ABSENT;
-use graph::RANK_COLUMN;
+use graph::POSITION_COLUMN;
 use graph::SLOT_WIDTH;
 use graph::kind_of;
 use graph::previous_of;
-use graph::put_version;
+use graph::put_name;
 use graph::source_of;
 use marks::clear_marks;
 use marks::mark_starts;
@@ -45,15 +45,15 @@ ghost use Rattle.question.specs.Ways.{wayOf};
 ghost use Rattle.graph.specs.Table.{slot-width, Slot, kind-in, absent, node-in, nodes-in, Ready, Kept};
 ghost use Rattle.graph.specs.Links.{name-string, Starts};
 ghost use Rattle.marks.specs.Marks.{is-marked, Stands};
-ghost use Rattle.trace_writer.specs.Marks.{trace-columns, rank-in, members, is-inside, starts-inside, Begun, Spread, MarksDone, RanksDone, Ranked, Prepared};
-ghost use Rattle.trace_writer.specs.Texts.{ranked-edges, record-with, slot-string, slot-strings, Width, TraceLength, RecordPut, Put, Room, Fits};
+ghost use Rattle.trace_writer.specs.Marks.{trace-columns, slot-position, members, is-inside, starts-inside, OnlyMarked, Spread, MarksDone, PositionsDone, Positioned, Prepared};
+ghost use Rattle.trace_writer.specs.Texts.{slot-edges, record-with, slot-string, slot-strings, Width, TraceLength, RecordWritten, Put, Room, Fits};
 
 // ---- the found version
 
-// The found version is in every trace from it, and none else so far.
-fn begin(work: &mut [u8], n: usize, v: usize)
+// Marks the found version, which is in every trace from it, and none else.
+fn mark_only(work: &mut [u8], n: usize, v: usize)
     requires { ⌜ (slot-width * n ≤ length (now work)) × (v < n) ⌝ }
-    ensures { λ _. ⌜ Begun (now (work .entry)) (now (work .exit)) n v ⌝ }
+    ensures { λ _. ⌜ OnlyMarked (now (work .entry)) (now (work .exit)) n v ⌝ }
 {
     clear_marks(work, n);
     set_mark(work, v, true);
@@ -77,7 +77,7 @@ fn mark_backward(work: &mut [u8], n: usize, v: usize)
     requires { ⌜ Ready (now work) n × (v < n) ⌝ }
     ensures { λ _. ⌜ MarksDone backward (now (work .entry)) (now (work .exit)) n v ⌝ }
 {
-    begin(work, n, v);
+    mark_only(work, n, v);
     mark_starts(work, v);
     let mut i = v;
     while 0 < i {
@@ -116,7 +116,7 @@ fn mark_forward(work: &mut [u8], n: usize, v: usize)
     requires { ⌜ Ready (now work) n × (v < n) ⌝ }
     ensures { λ _. ⌜ MarksDone forward (now (work .entry)) (now (work .exit)) n v ⌝ }
 {
-    begin(work, n, v);
+    mark_only(work, n, v);
     let mut i = v + 1;
     while i < n {
         let reached = either_inside(work, i);
@@ -150,22 +150,22 @@ fn record_count(work: &[u8], i: usize) -> u32
 }
 
 // The position of a slot's record: how many slots before it are marked.
-fn rank_of(work: &[u8], i: usize) -> u32
+fn position_of(work: &[u8], i: usize) -> u32
     requires { ⌜ Slot (now work) i ⌝ }
-    ensures { λ r. ⌜ r ≡ rank-in (now (work .entry)) i ⌝ }
+    ensures { λ r. ⌜ r ≡ slot-position (now (work .entry)) i ⌝ }
 {
-    get_u32(work, SLOT_WIDTH * i + RANK_COLUMN)
+    get_u32(work, SLOT_WIDTH * i + POSITION_COLUMN)
 }
 
-fn put_ranks(work: &mut [u8], n: usize)
+fn set_positions(work: &mut [u8], n: usize)
     requires { ⌜ (slot-width * n ≤ length (now work)) × (n ≤ absent) ⌝ }
-    ensures { λ _. ⌜ RanksDone (now (work .entry)) (now (work .exit)) n ⌝ }
+    ensures { λ _. ⌜ PositionsDone (now (work .entry)) (now (work .exit)) n ⌝ }
 {
-    let mut rank: u32 = 0;
+    let mut position: u32 = 0;
     let mut i: usize = 0;
     while i < n {
-        put_u32(work, SLOT_WIDTH * i + RANK_COLUMN, rank);
-        rank += record_count(work, i);
+        put_u32(work, SLOT_WIDTH * i + POSITION_COLUMN, position);
+        position += record_count(work, i);
         i += 1;
     }
 }
@@ -223,7 +223,7 @@ pub fn prepare(way: Way, work: &mut [u8], n: usize, v: usize) -> usize
     ensures bytes { λ r. ⌜ r ≡ length (trace-string (wayOf way) (trace (wayOf way) (nodes-in (now (work .entry)) n) v)) ⌝ }
 {
     mark_trace(way, work, n, v);
-    put_ranks(work, n);
+    set_positions(work, n);
     trace_length(work, n)
 }
 
@@ -240,12 +240,12 @@ fn entry_letter(way: Way) -> u8
 }
 
 // The beginning of every record: letter, entity, time.
-fn put_name(letter: u8, work: &[u8], i: usize, out: &mut [u8], at: usize)
+fn put_letter_and_name(letter: u8, work: &[u8], i: usize, out: &mut [u8], at: usize)
     requires { ⌜ Slot (now work) i × (at + 13 ≤ length (now out)) ⌝ }
     ensures { λ _. ⌜ now (out .exit) ≡ written (now (out .entry)) at (letter ∷ name-string (node-in (now (work .entry)) i)) ⌝ }
 {
     out[at] = letter;
-    put_version(out, at + RECORD_ENTITY, work, i);
+    put_name(out, at + RECORD_ENTITY, work, i);
 }
 
 // The kind of a slot's dependency edge.
@@ -259,27 +259,27 @@ fn put_kind(work: &[u8], i: usize, out: &mut [u8], at: usize)
 // The position of an edge's start.
 fn put_position(work: &[u8], start: u16, out: &mut [u8], at: usize)
     requires { ⌜ Slot (now work) start × (at + 4 ≤ length (now out)) ⌝ }
-    ensures { λ _. ⌜ now (out .exit) ≡ written (now (out .entry)) at (encode 4 (rank-in (now (work .entry)) start)) ⌝ }
+    ensures { λ _. ⌜ now (out .exit) ≡ written (now (out .entry)) at (encode 4 (slot-position (now (work .entry)) start)) ⌝ }
 {
     let from = start as usize;
-    put_u32(out, at, rank_of(work, from));
+    put_u32(out, at, position_of(work, from));
 }
 
 // T: only the temporal edge starts inside.
 fn put_temporal(work: &[u8], i: usize, previous: u16, out: &mut [u8], at: usize)
     requires { ⌜ Slot (now work) i × Slot (now work) previous × (at + 17 ≤ length (now out)) ⌝ }
-    ensures { λ _. ⌜ RecordPut (now (work .entry)) i (temporal (rank-in (now (work .entry)) previous) ∷ []) (now (out .entry)) (now (out .exit)) at ⌝ }
+    ensures { λ _. ⌜ RecordWritten (now (work .entry)) i (temporal (slot-position (now (work .entry)) previous) ∷ []) (now (out .entry)) (now (out .exit)) at ⌝ }
 {
-    put_name(LETTER_T, work, i, out, at);
+    put_letter_and_name(LETTER_T, work, i, out, at);
     put_position(work, previous, out, at + T_PREVIOUS);
 }
 
 // D: only the dependency edge starts inside.
 fn put_dependency(work: &[u8], i: usize, source: u16, out: &mut [u8], at: usize)
     requires { ⌜ Slot (now work) i × Slot (now work) source × (at + 18 ≤ length (now out)) ⌝ }
-    ensures { λ _. ⌜ RecordPut (now (work .entry)) i (dependency (kind-in (now (work .entry)) i) (rank-in (now (work .entry)) source) ∷ []) (now (out .entry)) (now (out .exit)) at ⌝ }
+    ensures { λ _. ⌜ RecordWritten (now (work .entry)) i (dependency (kind-in (now (work .entry)) i) (slot-position (now (work .entry)) source) ∷ []) (now (out .entry)) (now (out .exit)) at ⌝ }
 {
-    put_name(LETTER_D, work, i, out, at);
+    put_letter_and_name(LETTER_D, work, i, out, at);
     put_kind(work, i, out, at + D_KIND);
     put_position(work, source, out, at + D_SOURCE);
 }
@@ -287,9 +287,9 @@ fn put_dependency(work: &[u8], i: usize, source: u16, out: &mut [u8], at: usize)
 // V: both do.
 fn put_both(work: &[u8], i: usize, previous: u16, source: u16, out: &mut [u8], at: usize)
     requires { ⌜ Slot (now work) i × Slot (now work) previous × Slot (now work) source × (at + 22 ≤ length (now out)) ⌝ }
-    ensures { λ _. ⌜ RecordPut (now (work .entry)) i (temporal (rank-in (now (work .entry)) previous) ∷ dependency (kind-in (now (work .entry)) i) (rank-in (now (work .entry)) source) ∷ []) (now (out .entry)) (now (out .exit)) at ⌝ }
+    ensures { λ _. ⌜ RecordWritten (now (work .entry)) i (temporal (slot-position (now (work .entry)) previous) ∷ dependency (kind-in (now (work .entry)) i) (slot-position (now (work .entry)) source) ∷ []) (now (out .entry)) (now (out .exit)) at ⌝ }
 {
-    put_name(LETTER_V, work, i, out, at);
+    put_letter_and_name(LETTER_V, work, i, out, at);
     put_kind(work, i, out, at + V_KIND);
     put_position(work, previous, out, at + V_PREVIOUS);
     put_position(work, source, out, at + V_SOURCE);
@@ -297,8 +297,8 @@ fn put_both(work: &[u8], i: usize, previous: u16, source: u16, out: &mut [u8], a
 
 // The record of a version in the trace; answers the place behind it.
 fn put_marked(way: Way, work: &[u8], i: usize, out: &mut [u8], at: usize) -> usize
-    requires { ⌜ Starts (now work) i × (at + length (record-with (wayOf way) (now work) i (ranked-edges (now work) i)) ≤ length (now out)) ⌝ }
-    ensures { λ r. ⌜ Put (now (out .entry)) (now (out .exit)) at r (record-with (wayOf way) (now (work .entry)) i (ranked-edges (now (work .entry)) i)) ⌝ }
+    requires { ⌜ Starts (now work) i × (at + length (record-with (wayOf way) (now work) i (slot-edges (now work) i)) ≤ length (now out)) ⌝ }
+    ensures { λ r. ⌜ Put (now (out .entry)) (now (out .exit)) at r (record-with (wayOf way) (now (work .entry)) i (slot-edges (now (work .entry)) i)) ⌝ }
 {
     let previous = previous_of(work, i);
     let source = source_of(work, i);
@@ -314,7 +314,7 @@ fn put_marked(way: Way, work: &[u8], i: usize, out: &mut [u8], at: usize) -> usi
         put_dependency(work, i, source, out, at);
         return at + D_WIDTH;
     }
-    put_name(entry_letter(way), work, i, out, at);
+    put_letter_and_name(entry_letter(way), work, i, out, at);
     at + E_WIDTH
 }
 
@@ -346,11 +346,11 @@ fn put_records(way: Way, work: &[u8], n: usize, out: &mut [u8])
 
 // The number of records.
 fn count_of(work: &[u8], n: usize) -> u32
-    requires { ⌜ Ranked (now work) n × (0 < n) ⌝ }
+    requires { ⌜ Positioned (now work) n × (0 < n) ⌝ }
     ensures { λ r. ⌜ r ≡ length (members (now (work .entry)) n) ⌝ }
 {
     let last = n - 1;
-    rank_of(work, last) + record_count(work, last)
+    position_of(work, last) + record_count(work, last)
 }
 
 // Writes the trace that the table was prepared for to the front of `out`.

@@ -1,21 +1,27 @@
 use borrow.Author.Needs.{needs}
-use Rattle.bozhtagul.proofs.Hashed.{hash-outcome, hash-agrees}
+use mathlib.Core.Path.{_∙_}
 use denote.Ref.{now}
-use mathlib.Core.Path.{ap, sym, _∙_}
+use Rattle.bozhtagul.proofs.Plain.{hash-short, hash-written}
 use Rattle.bozhtagul.proofs.bozhtagul_hash.Statement.{statement}
 use Rattle.bozhtagul.proofs.bozhtagul_hash.Tie as tie
-
-hash-requires : tie.Need-hash-requires
-hash-requires c κs = search needs
-
-enum-told : tie.Need-enum-told
-enum-told c = search needs
 
 row-requires : tie.Need-row-requires
 row-requires c κs = search needs
 
-enum-known-number : tie.Need-enum-known-number
-enum-known-number c = search needs
+returns : tie.Need-returns
+returns c =
+    let a = c .before .before .before .before .args in
+    let h = hash-short (now (a .message)) (now (a .out)) (c .before .if1 .taken) in
+    (c .row .ensures ∙ h .0, h .1)
+
+hash-requires : tie.Need-hash-requires
+hash-requires c κs = search needs
+
+slice-aggregate-copy : tie.Need-slice-aggregate-copy
+slice-aggregate-copy c = search needs
+
+copy-requires : tie.Need-copy-requires
+copy-requires c κs = search needs
 
 row-requires-2 : tie.Need-row-requires-2
 row-requires-2 c κs = search needs
@@ -23,35 +29,11 @@ row-requires-2 c κs = search needs
 same-length : tie.Need-same-length
 same-length c = search needs
 
-returns : tie.Need-returns
-unfolding hash-outcome
-returns c =
-    let a = c .before .before .before .before .before .before .before .before .before .args in
-    let h = c .before .before .before .before .before .hash .ensures in
-    let same = hash-agrees (now (a .message)) (now (a .out)) in
-    (c .row .ensures ∙ sym (same .0 ∙ ap hash-outcome (sym (h .0) ∙ c .before .enum-told .given .1)), h .1 ∙ sym (same .1))
-
-same-length-2 : tie.Need-same-length-2
-same-length-2 c = search needs
-
 returns-2 : tie.Need-returns-2
-unfolding hash-outcome
 returns-2 c =
     let a = c .before .before .before .before .before .before .before .before .before .before .args in
-    let h = c .before .before .before .before .before .before .hash .ensures in
-    let same = hash-agrees (now (a .message)) (now (a .out)) in
-    (c .row2 .ensures ∙ sym (same .0 ∙ ap hash-outcome (sym (h .0) ∙ c .before .before .number .given .1)), h .1 ∙ sym (same .1))
+    let h = hash-written (now (a .message)) (now (a .out)) (c .before .before .before .before .before .before .before .if1 .left) _ _ (c .before .before .before .before .before .before .hash .ensures) (c .before .before .before .copy .ensures) in
+    (c .row2 .ensures ∙ h .0, h .1)
 
 pub bozhtagul-hash-spec : {M : Type 1} → statement M
-bozhtagul-hash-spec =
-    tie.close
-    (tie.spec
-    hash-requires
-    enum-told
-    row-requires
-    enum-known-number
-    row-requires-2
-    same-length
-    returns
-    same-length-2
-    returns-2)
+bozhtagul-hash-spec = tie.close (tie.spec row-requires returns hash-requires slice-aggregate-copy copy-requires row-requires-2 same-length returns-2)

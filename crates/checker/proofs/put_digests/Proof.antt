@@ -6,14 +6,14 @@ use Rattle.checker.proofs.put_digests.Tie as tie
 enum-told : tie.Need-enum-told
 enum-told c = search needs
 
-incoming-digests-requires : tie.Need-incoming-digests-requires
-incoming-digests-requires c κs = search needs
+fill-incoming-requires : tie.Need-fill-incoming-requires
+fill-incoming-requires c κs = search needs
 
 enum-told-2 : tie.Need-enum-told-2
 enum-told-2 c = search needs
 
-outgoing-digests-requires : tie.Need-outgoing-digests-requires
-outgoing-digests-requires c κs = search needs
+fill-outgoing-requires : tie.Need-fill-outgoing-requires
+fill-outgoing-requires c κs = search needs
 
 same-length : tie.Need-same-length
 same-length c = search needs
@@ -32,9 +32,9 @@ put-digests-spec =
     tie.close
     (tie.spec
     enum-told
-    incoming-digests-requires
+    fill-incoming-requires
     enum-told-2
-    outgoing-digests-requires
+    fill-outgoing-requires
     same-length
     returns
     same-length-2

@@ -12,8 +12,8 @@ add-get-u64 c = search needs
 get-u64-requires-2 : tie.Need-get-u64-requires-2
 get-u64-requires-2 c κs = search needs
 
-add-take-string : tie.Need-add-take-string
-add-take-string c = search needs
+add-digest : tie.Need-add-digest
+add-digest c = search needs
 
 take-string-requires : tie.Need-take-string-requires
 take-string-requires c κs = search needs
@@ -29,9 +29,6 @@ returns c = search leaf-opened
 
 returns-2 : tie.Need-returns-2
 returns-2 c = search leaf-refused
-
-add-take-string-2 : tie.Need-add-take-string-2
-add-take-string-2 c = search needs
 
 take-string-requires-2 : tie.Need-take-string-requires-2
 take-string-requires-2 c κs = search needs
@@ -55,13 +52,12 @@ open-spec =
     get-u64-requires
     add-get-u64
     get-u64-requires-2
-    add-take-string
+    add-digest
     take-string-requires
     enum-told
     enum-known-number
     returns
     returns-2
-    add-take-string-2
     take-string-requires-2
     enum-told-2
     enum-known-number-2

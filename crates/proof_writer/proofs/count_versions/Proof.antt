@@ -4,7 +4,7 @@ use denote.Ref.{now}
 use mathlib.Core.List.{List}
 use Prim.Native.Nat.{_-_}
 use Rattle.model.specs.Graph.{VersionNode, node-at}
-use Rattle.proof_writer.specs.StoredLeaves.{Graphed}
+use Rattle.trees.specs.Tables.{Graphed}
 use Rattle.proof_writer.proofs.Counting.{CountedTo, counted-to-none, counted-slot, before-few, counted-few, counted-forward, counted-to-more, counted-all}
 use Rattle.proof_writer.proofs.count_versions.Statement.{statement}
 use Rattle.proof_writer.proofs.count_versions.Tie as tie

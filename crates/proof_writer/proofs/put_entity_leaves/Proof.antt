@@ -4,7 +4,7 @@ use denote.Ref.{now}
 use mathlib.Core.List.{List}
 use Prim.Native.Nat.{_-_}
 use Rattle.model.specs.Graph.{VersionNode}
-use Rattle.proof_writer.specs.StoredLeaves.{Graphed}
+use Rattle.trees.specs.Tables.{Graphed}
 use Rattle.proof_writer.proofs.StoringLeaves.{EntitiesStored, entities-stored-none, entities-ready, entities-room, entities-few, entities-size, entities-stored-more, entities-stored-all}
 use Rattle.proof_writer.proofs.put_entity_leaves.Statement.{statement}
 use Rattle.proof_writer.proofs.put_entity_leaves.Tie as tie

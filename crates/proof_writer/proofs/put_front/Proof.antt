@@ -15,11 +15,6 @@ cast-put-root c =
     let F = c .before .before .before .before .before .before .before .pre .0 .1 in
     omega (arith, F .has-leaves .few)
 
-cast-put-root-2 : tie.Need-cast-put-root-2
-cast-put-root-2 c =
-    let G = c .before .before .before .before .before .before .before .pre .0 .0 .graphed in
-    omega (arith, G .number, G .digested .few)
-
 put-root-requires : tie.Need-put-root-requires
 put-root-requires c κs = search needs
 
@@ -29,7 +24,7 @@ same-length c = search needs
 returns : tie.Need-returns
 returns c =
     let s = c .before .before .before .before .before .before .before .before .before .before in
-    λ ns G I. front-is (now (s .args .work)) _ ns _ _ (now (s .args .out)) _ _ _ I (c .before .before .before .before .before .before .put-path .ensures) (c .before .before .put-root .ensures) (s .pre .0 .2)
+    λ ns G I. front-is (now (s .args .work)) ns _ _ (now (s .args .out)) _ _ _ I (c .before .before .before .before .before .before .put-path .ensures) (c .before .before .put-root .ensures) (s .pre .0 .2)
 
 pub put-front-spec : {M : Type 1} → statement M
 put-front-spec =
@@ -37,7 +32,6 @@ put-front-spec =
     (tie.spec
     put-path-requires
     cast-put-root
-    cast-put-root-2
     put-root-requires
     same-length
     returns)

@@ -4,7 +4,7 @@ use denote.Ref.{now}
 use mathlib.Core.List.{List}
 use Prim.Native.Nat.{_-_}
 use Rattle.model.specs.Graph.{VersionNode, node-at}
-use Rattle.proof_writer.specs.StoredLeaves.{Graphed}
+use Rattle.trees.specs.Tables.{Graphed}
 use Rattle.proof_writer.proofs.StoringLeaves.{VersionsStored, versions-stored-none, versions-slot, versions-room, versions-forward, versions-stored-more, versions-stored-all}
 use Rattle.proof_writer.proofs.put_version_leaves.Statement.{statement}
 use Rattle.proof_writer.proofs.put_version_leaves.Tie as tie

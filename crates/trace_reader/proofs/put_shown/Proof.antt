@@ -25,14 +25,14 @@ start-at-requires-2 c κs =
     let a = s .args in
     (omega (arith, width-V _ (c .before .if1 .taken)), below-V (now (a .answer)) (a .at) (a .letter) (a .i) (s .pre .0) (s .pre .1) (s .pre .2) (c .before .if1 .taken) .1)
 
-add-put-version : tie.Need-add-put-version
-add-put-version c = search needs
+add-put-record-node : tie.Need-add-put-record-node
+add-put-record-node c = search needs
 
-shared-slice-read-put-version : tie.Need-shared-slice-read-put-version
-shared-slice-read-put-version c = omega (arith, width-V _ (c .before .before .before .before .if1 .taken))
+shared-slice-read-put-record-node : tie.Need-shared-slice-read-put-record-node
+shared-slice-read-put-record-node c = omega (arith, width-V _ (c .before .before .before .before .if1 .taken))
 
-put-version-requires : tie.Need-put-version-requires
-put-version-requires c κs =
+put-record-node-requires : tie.Need-put-record-node-requires
+put-record-node-requires c κs =
     let s = c .before .before .before .before .before .before .before in
     let a = s .args in
     (omega (arith, width-least (a .letter)), s .pre .3)
@@ -44,7 +44,7 @@ returns : tie.Need-returns
 returns c =
     let s = c .before .before .before .before .before .before .before .before .before .before in
     let a = s .args in
-    put-V (now (a .answer)) (a .at) (a .letter) (a .i) (s .pre .0) (s .pre .1) (s .pre .2) (c .before .before .before .before .before .before .before .if1 .taken) _ _ _ _ (c .before .before .before .before .before .before .start-at .ensures) (c .before .before .before .before .before .start-at2 .ensures) (c .before .before .put-version .ensures)
+    put-V (now (a .answer)) (a .at) (a .letter) (a .i) (s .pre .0) (s .pre .1) (s .pre .2) (c .before .before .before .before .before .before .before .if1 .taken) _ _ _ _ (c .before .before .before .before .before .before .start-at .ensures) (c .before .before .before .before .before .start-at2 .ensures) (c .before .before .put-record-node .ensures)
 
 add-start-at-3 : tie.Need-add-start-at-3
 add-start-at-3 c = search needs
@@ -55,14 +55,14 @@ start-at-requires-3 c κs =
     let a = s .args in
     (omega (arith, width-D _ (c .before .if1 .left) (c .if2 .taken)), below-D (now (a .answer)) (a .at) (a .letter) (a .i) (s .pre .0) (s .pre .1) (s .pre .2) (c .before .if1 .left) (c .if2 .taken))
 
-add-put-version-2 : tie.Need-add-put-version-2
-add-put-version-2 c = search needs
+add-put-record-node-2 : tie.Need-add-put-record-node-2
+add-put-record-node-2 c = search needs
 
-shared-slice-read-put-version-2 : tie.Need-shared-slice-read-put-version-2
-shared-slice-read-put-version-2 c = omega (arith, width-D _ (c .before .before .before .before .if1 .left) (c .before .before .before .if2 .taken))
+shared-slice-read-put-record-node-2 : tie.Need-shared-slice-read-put-record-node-2
+shared-slice-read-put-record-node-2 c = omega (arith, width-D _ (c .before .before .before .before .if1 .left) (c .before .before .before .if2 .taken))
 
-put-version-requires-2 : tie.Need-put-version-requires-2
-put-version-requires-2 c κs =
+put-record-node-requires-2 : tie.Need-put-record-node-requires-2
+put-record-node-requires-2 c κs =
     let s = c .before .before .before .before .before .before .before in
     let a = s .args in
     (omega (arith, width-least (a .letter)), s .pre .3)
@@ -74,7 +74,7 @@ returns-2 : tie.Need-returns-2
 returns-2 c =
     let s = c .before .before .before .before .before .before .before .before .before .before in
     let a = s .args in
-    put-D (now (a .answer)) (a .at) (a .letter) (a .i) (s .pre .0) (s .pre .1) (s .pre .2) (c .before .before .before .before .before .before .before .if1 .left) (c .before .before .before .before .before .before .if2 .taken) _ _ _ _ refl (c .before .before .before .before .before .start-at3 .ensures) (c .before .before .put-version2 .ensures)
+    put-D (now (a .answer)) (a .at) (a .letter) (a .i) (s .pre .0) (s .pre .1) (s .pre .2) (c .before .before .before .before .before .before .before .if1 .left) (c .before .before .before .before .before .before .if2 .taken) _ _ _ _ refl (c .before .before .before .before .before .start-at3 .ensures) (c .before .before .put-record-node2 .ensures)
 
 add-start-at-4 : tie.Need-add-start-at-4
 add-start-at-4 c = search needs
@@ -85,8 +85,8 @@ start-at-requires-4 c κs =
     let a = s .args in
     (omega (arith, width-T _ (c .before .before .if1 .left) (c .before .if2 .left) (c .if3 .taken)), below-T (now (a .answer)) (a .at) (a .letter) (a .i) (s .pre .0) (s .pre .1) (s .pre .2) (c .before .before .if1 .left) (c .before .if2 .left) (c .if3 .taken))
 
-put-version-requires-3 : tie.Need-put-version-requires-3
-put-version-requires-3 c κs =
+put-record-node-requires-3 : tie.Need-put-record-node-requires-3
+put-record-node-requires-3 c κs =
     let s = c .before .before .before .before .before .before .before in
     let a = s .args in
     (omega (arith, width-least (a .letter)), s .pre .3)
@@ -98,10 +98,10 @@ returns-3 : tie.Need-returns-3
 returns-3 c =
     let s = c .before .before .before .before .before .before .before .before .before .before in
     let a = s .args in
-    put-T (now (a .answer)) (a .at) (a .letter) (a .i) (s .pre .0) (s .pre .1) (s .pre .2) (c .before .before .before .before .before .before .before .if1 .left) (c .before .before .before .before .before .before .if2 .left) (c .before .before .before .before .before .if3 .taken) _ _ _ _ _ (c .before .before .before .before .start-at4 .ensures) refl (c .before .before .put-version3 .ensures)
+    put-T (now (a .answer)) (a .at) (a .letter) (a .i) (s .pre .0) (s .pre .1) (s .pre .2) (c .before .before .before .before .before .before .before .if1 .left) (c .before .before .before .before .before .before .if2 .left) (c .before .before .before .before .before .if3 .taken) _ _ _ _ _ (c .before .before .before .before .start-at4 .ensures) refl (c .before .before .put-record-node3 .ensures)
 
-put-version-requires-4 : tie.Need-put-version-requires-4
-put-version-requires-4 c κs =
+put-record-node-requires-4 : tie.Need-put-record-node-requires-4
+put-record-node-requires-4 c κs =
     let s = c .before .before .before .before .before .before in
     let a = s .args in
     (omega (arith, width-least (a .letter)), s .pre .3)
@@ -113,7 +113,7 @@ returns-4 : tie.Need-returns-4
 returns-4 c =
     let s = c .before .before .before .before .before .before .before .before .before in
     let a = s .args in
-    put-entry (now (a .answer)) (a .at) (a .letter) (a .i) (s .pre .0) (s .pre .1) (s .pre .2) (c .before .before .before .before .before .before .if1 .left) (c .before .before .before .before .before .if2 .left) (c .before .before .before .before .if3 .left) _ _ _ _ _ refl refl (c .before .before .put-version4 .ensures)
+    put-entry (now (a .answer)) (a .at) (a .letter) (a .i) (s .pre .0) (s .pre .1) (s .pre .2) (c .before .before .before .before .before .before .if1 .left) (c .before .before .before .before .before .if2 .left) (c .before .before .before .before .if3 .left) _ _ _ _ _ refl refl (c .before .before .put-record-node4 .ensures)
 
 pub put-shown-spec : {M : Type 1} → statement M
 put-shown-spec =
@@ -123,23 +123,23 @@ put-shown-spec =
     start-at-requires
     add-start-at-2
     start-at-requires-2
-    add-put-version
-    shared-slice-read-put-version
-    put-version-requires
+    add-put-record-node
+    shared-slice-read-put-record-node
+    put-record-node-requires
     same-length
     returns
     add-start-at-3
     start-at-requires-3
-    add-put-version-2
-    shared-slice-read-put-version-2
-    put-version-requires-2
+    add-put-record-node-2
+    shared-slice-read-put-record-node-2
+    put-record-node-requires-2
     same-length-2
     returns-2
     add-start-at-4
     start-at-requires-4
-    put-version-requires-3
+    put-record-node-requires-3
     same-length-3
     returns-3
-    put-version-requires-4
+    put-record-node-requires-4
     same-length-4
     returns-4)

@@ -23,11 +23,11 @@ add-at c = search needs
 loop-holds : tie.Need-loop-holds Inv-loop μ-loop
 loop-holds c = (refl, none-read _ _ _ _ _ (c .before .before .pre .0))
 
-sub-record-step : tie.Need-sub-record-step Inv-loop μ-loop
-sub-record-step c = search needs
+sub-read-record : tie.Need-sub-read-record Inv-loop μ-loop
+sub-read-record c = search needs
 
-record-step-requires : tie.Need-record-step-requires Inv-loop μ-loop
-record-step-requires c κs =
+read-record-requires : tie.Need-read-record-requires Inv-loop μ-loop
+read-record-requires c κs =
     let l = c .before .before .loop in
     let s = c .before .before .before .before .before in
     let a = s .args in
@@ -45,7 +45,7 @@ returns c =
     let l = c .before .before .before .before .before .before .before .before .loop in
     let s = c .before .before .before .before .before .before .before .before .before .before .before in
     let a = s .args in
-    stops-there _ (a .count) (now (a .answer)) (a .start) (l .i) (l .last .0) (l .work) (l .at) (l .inv .1) (c .before .before .before .before .before .before .before .loop-test .taken) _ _ _ (c .before .before .before .before .before .record-step .ensures) _ (c .before .number .given .1)
+    stops-there _ (a .count) (now (a .answer)) (a .start) (l .i) (l .last .0) (l .work) (l .at) (l .inv .1) (c .before .before .before .before .before .before .before .loop-test .taken) _ _ _ (c .before .before .before .before .before .read-record .ensures) _ (c .before .number .given .1)
 
 enum-known-width : tie.Need-enum-known-width Inv-loop μ-loop
 enum-known-width c = search needs
@@ -55,7 +55,7 @@ add-at-2 c =
     let l = c .before .before .before .before .before .before .before .before .loop in
     let s = c .before .before .before .before .before .before .before .before .before .before .before in
     let a = s .args in
-    let r = goes-on _ (a .count) (now (a .answer)) (a .start) (l .i) (l .last .0) (l .work) (l .at) (l .inv .1) (c .before .before .before .before .before .before .before .loop-test .taken) _ _ (c .before .before .before .before .before .record-step .ensures) _ _ (c .before .width .given .1) in
+    let r = goes-on _ (a .count) (now (a .answer)) (a .start) (l .i) (l .last .0) (l .work) (l .at) (l .inv .1) (c .before .before .before .before .before .before .before .loop-test .taken) _ _ (c .before .before .before .before .before .read-record .ensures) _ _ (c .before .width .given .1) in
     omega (arith, r .inside)
 
 add-i : tie.Need-add-i Inv-loop μ-loop
@@ -69,7 +69,7 @@ loop-again c =
     let l = c .before .before .before .before .before .before .before .before .loop in
     let s = c .before .before .before .before .before .before .before .before .before .before .before in
     let a = s .args in
-    (search needs, goes-on _ (a .count) (now (a .answer)) (a .start) (l .i) (l .last .0) (l .work) (l .at) (l .inv .1) (c .before .before .before .before .before .before .before .loop-test .taken) _ _ (c .before .before .before .before .before .record-step .ensures) _ _ (c .before .width .given .1))
+    (search needs, goes-on _ (a .count) (now (a .answer)) (a .start) (l .i) (l .last .0) (l .work) (l .at) (l .inv .1) (c .before .before .before .before .before .before .before .loop-test .taken) _ _ (c .before .before .before .before .before .read-record .ensures) _ _ (c .before .width .given .1))
 
 same-length-2 : tie.Need-same-length-2 Inv-loop μ-loop
 same-length-2 c = search needs
@@ -89,8 +89,8 @@ read-records-spec =
     μ-loop
     add-at
     loop-holds
-    sub-record-step
-    record-step-requires
+    sub-read-record
+    read-record-requires
     enum-known-number
     same-length
     returns

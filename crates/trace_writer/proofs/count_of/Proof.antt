@@ -6,8 +6,8 @@ use Rattle.trace_writer.proofs.count_of.Tie as tie
 sub-last : tie.Need-sub-last
 sub-last c = search needs
 
-rank-of-requires : tie.Need-rank-of-requires
-rank-of-requires c κs = search needs
+position-of-requires : tie.Need-position-of-requires
+position-of-requires c κs = search needs
 
 record-count-requires : tie.Need-record-count-requires
 record-count-requires c κs = search needs
@@ -20,4 +20,4 @@ returns c = search all-counted
 
 pub count-of-spec : {M : Type 1} → statement M
 count-of-spec =
-    tie.close (tie.spec sub-last rank-of-requires record-count-requires add-result returns)
+    tie.close (tie.spec sub-last position-of-requires record-count-requires add-result returns)

@@ -1,4 +1,4 @@
-use Rattle.trace_writer.proofs.Searching.{BackTurn, begun-starts, back-none, back-starts, back-more, back-all}
+use Rattle.trace_writer.proofs.Searching.{BackTurn, only-marked-starts, back-none, back-starts, back-more, back-all}
 use borrow.Author.Needs.{needs}
 use Rattle.trace_writer.proofs.mark_backward.Statement.{statement}
 use Rattle.trace_writer.proofs.mark_backward.Tie as tie
@@ -9,11 +9,11 @@ Inv-loop work₀ n v i₀ work i = BackTurn work₀ work n v i
 abbrev μ-loop : tie.MeasureT-loop
 μ-loop work₀ n v i₀ work i = i
 
-begin-requires : tie.Need-begin-requires Inv-loop μ-loop
-begin-requires c κs = search needs
+mark-only-requires : tie.Need-mark-only-requires Inv-loop μ-loop
+mark-only-requires c κs = search needs
 
 mark-starts-requires : tie.Need-mark-starts-requires Inv-loop μ-loop
-mark-starts-requires c κs = search begun-starts
+mark-starts-requires c κs = search only-marked-starts
 
 loop-holds : tie.Need-loop-holds Inv-loop μ-loop
 loop-holds c = search back-none
@@ -42,7 +42,7 @@ mark-backward-spec =
     (tie.spec
     Inv-loop
     μ-loop
-    begin-requires
+    mark-only-requires
     mark-starts-requires
     loop-holds
     sub-i

@@ -10,8 +10,8 @@ Inv-loop work₀ n v i₀ work i = ForTurn work₀ work n v i
 abbrev μ-loop : tie.MeasureT-loop
 μ-loop work₀ n v i₀ work i = n - i
 
-begin-requires : tie.Need-begin-requires Inv-loop μ-loop
-begin-requires c κs = search needs
+mark-only-requires : tie.Need-mark-only-requires Inv-loop μ-loop
+mark-only-requires c κs = search needs
 
 add-i : tie.Need-add-i Inv-loop μ-loop
 add-i c = search needs
@@ -46,7 +46,7 @@ mark-forward-spec =
     (tie.spec
     Inv-loop
     μ-loop
-    begin-requires
+    mark-only-requires
     add-i
     loop-holds
     either-inside-requires

@@ -6,8 +6,8 @@ use Rattle.trace_writer.proofs.prepare.Tie as tie
 mark-trace-requires : tie.Need-mark-trace-requires
 mark-trace-requires c κs = search needs
 
-put-ranks-requires : tie.Need-put-ranks-requires
-put-ranks-requires c κs = search needs
+set-positions-requires : tie.Need-set-positions-requires
+set-positions-requires c κs = search needs
 
 trace-length-requires : tie.Need-trace-length-requires
 trace-length-requires c κs = search prepared-ready
@@ -21,4 +21,4 @@ returns c = (search is-prepared, (search both-kept, search prepared-length))
 pub prepare-spec : {M : Type 1} → statement M
 prepare-spec =
     tie.close
-    (tie.spec mark-trace-requires put-ranks-requires trace-length-requires same-length returns)
+    (tie.spec mark-trace-requires set-positions-requires trace-length-requires same-length returns)

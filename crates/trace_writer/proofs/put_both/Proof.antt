@@ -3,8 +3,8 @@ use borrow.Author.Needs.{needs}
 use Rattle.trace_writer.proofs.put_both.Statement.{statement}
 use Rattle.trace_writer.proofs.put_both.Tie as tie
 
-put-name-requires : tie.Need-put-name-requires
-put-name-requires c κs = search needs
+put-letter-and-name-requires : tie.Need-put-letter-and-name-requires
+put-letter-and-name-requires c κs = search needs
 
 add-put-kind : tie.Need-add-put-kind
 add-put-kind c = search needs
@@ -34,7 +34,7 @@ pub put-both-spec : {M : Type 1} → statement M
 put-both-spec =
     tie.close
     (tie.spec
-    put-name-requires
+    put-letter-and-name-requires
     add-put-kind
     put-kind-requires
     add-put-position

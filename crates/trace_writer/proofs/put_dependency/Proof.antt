@@ -3,8 +3,8 @@ use borrow.Author.Needs.{needs}
 use Rattle.trace_writer.proofs.put_dependency.Statement.{statement}
 use Rattle.trace_writer.proofs.put_dependency.Tie as tie
 
-put-name-requires : tie.Need-put-name-requires
-put-name-requires c κs = search needs
+put-letter-and-name-requires : tie.Need-put-letter-and-name-requires
+put-letter-and-name-requires c κs = search needs
 
 add-put-kind : tie.Need-add-put-kind
 add-put-kind c = search needs
@@ -28,7 +28,7 @@ pub put-dependency-spec : {M : Type 1} → statement M
 put-dependency-spec =
     tie.close
     (tie.spec
-    put-name-requires
+    put-letter-and-name-requires
     add-put-kind
     put-kind-requires
     add-put-position

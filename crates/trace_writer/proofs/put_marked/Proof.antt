@@ -107,8 +107,8 @@ returns-3 c =
 entry-letter-requires : tie.Need-entry-letter-requires
 entry-letter-requires c κs = search needs
 
-put-name-requires : tie.Need-put-name-requires
-put-name-requires c κs =
+put-letter-and-name-requires : tie.Need-put-letter-and-name-requires
+put-letter-and-name-requires c κs =
     let q = c .before .before in
     let two = q .before in
     let q1 = two .before in
@@ -133,7 +133,7 @@ returns-4 c =
     let sr = one .before in
     let pr = sr .before in
     let s = pr .before .before .before in
-    entry-done _ _ _ (now (s .args .out)) _ _ _ _ _ (s .pre .0) (s .pre .1) (pr .previous-of .ensures) (sr .source-of .ensures) (one .inside .ensures) (two .inside3 .ensures) _ _ (q1 .if1 .left) (q .if3 .left) (c .before .before .before .before .entry-letter .ensures) (c .before .before .put-name .ensures)
+    entry-done _ _ _ (now (s .args .out)) _ _ _ _ _ (s .pre .0) (s .pre .1) (pr .previous-of .ensures) (sr .source-of .ensures) (one .inside .ensures) (two .inside3 .ensures) _ _ (q1 .if1 .left) (q .if3 .left) (c .before .before .before .before .entry-letter .ensures) (c .before .before .put-letter-and-name .ensures)
 
 pub put-marked-spec : {M : Type 1} → statement M
 put-marked-spec =
@@ -157,7 +157,7 @@ put-marked-spec =
     same-length-3
     returns-3
     entry-letter-requires
-    put-name-requires
+    put-letter-and-name-requires
     add-result-4
     same-length-4
     returns-4)

@@ -3,8 +3,8 @@ use borrow.Author.Needs.{needs}
 use Rattle.trace_writer.proofs.put_position.Statement.{statement}
 use Rattle.trace_writer.proofs.put_position.Tie as tie
 
-rank-of-requires : tie.Need-rank-of-requires
-rank-of-requires c κs = search needs
+position-of-requires : tie.Need-position-of-requires
+position-of-requires c κs = search needs
 
 put-u32-requires : tie.Need-put-u32-requires
 put-u32-requires c κs = search needs
@@ -16,4 +16,4 @@ returns : tie.Need-returns
 returns c = search position-put
 
 pub put-position-spec : {M : Type 1} → statement M
-put-position-spec = tie.close (tie.spec rank-of-requires put-u32-requires same-length returns)
+put-position-spec = tie.close (tie.spec position-of-requires put-u32-requires same-length returns)

@@ -3,8 +3,8 @@ use borrow.Author.Needs.{needs}
 use Rattle.trace_writer.proofs.put_temporal.Statement.{statement}
 use Rattle.trace_writer.proofs.put_temporal.Tie as tie
 
-put-name-requires : tie.Need-put-name-requires
-put-name-requires c κs = search needs
+put-letter-and-name-requires : tie.Need-put-letter-and-name-requires
+put-letter-and-name-requires c κs = search needs
 
 add-put-position : tie.Need-add-put-position
 add-put-position c = search needs
@@ -21,4 +21,4 @@ returns c = search (temporal-put, needs)
 pub put-temporal-spec : {M : Type 1} → statement M
 put-temporal-spec =
     tie.close
-    (tie.spec put-name-requires add-put-position put-position-requires same-length returns)
+    (tie.spec put-letter-and-name-requires add-put-position put-position-requires same-length returns)

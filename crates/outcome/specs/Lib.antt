@@ -1,0 +1,2 @@
+-- What contracts of calls that write cite.
+pub mod Outcomes
