@@ -2,42 +2,18 @@
 
 use crate::shapes::{self, Asked};
 use crate::table::{Subject, DIRECTIONS};
+use calls::{Fields, Memory, Name};
 use reference::collision::{building, checking};
 use reference::forge::pieces;
 use reference::log::read;
 use reference::random::Random;
 use reference::sha256::sha256;
 use reference::{listing, Question, WORK};
-use viewer::plain as exported;
-
-/// The exported calls.
-#[derive(Clone, Copy, Debug, PartialEq, Eq)]
-pub enum Call {
-    Hash,
-    Log,
-    Listing,
-    Commitment,
-    Answer,
-    Check,
-    Records,
-}
-
-const CALLS: [Call; 7] = [Call::Hash, Call::Log, Call::Listing, Call::Commitment, Call::Answer, Call::Check, Call::Records];
-
-impl Call {
-    pub fn name(self) -> String {
-        format!("{self:?}").to_lowercase()
-    }
-
-    fn named(name: &str) -> Option<Call> {
-        CALLS.into_iter().find(|call| call.name() == name)
-    }
-}
 
 /// What a call does not take is empty or zero.
 #[derive(Clone, Debug, PartialEq, Eq)]
 pub struct Case {
-    pub call: Call,
+    pub call: Name,
     pub question: Question,
     /// The message or the log; for check and records the commitment, then the answer.
     pub input: Vec<u8>,
@@ -46,10 +22,11 @@ pub struct Case {
     pub out: usize,
 }
 
-/// The memory that a call writes to.
+/// The memory that a call writes to, and its result: beside the call's own stack, which is measured.
 pub struct Lent {
     work: Vec<u8>,
     pub out: Vec<u8>,
+    pub result: Fields,
 }
 
 /// Bytes of a commitment.
@@ -58,20 +35,20 @@ const COMMITMENT: usize = 32;
 impl Case {
     pub fn new(subject: &Subject) -> Self {
         let Subject { call, direction, shape, size } = *subject;
-        let input = if call == Call::Hash { Random::new(size as u64).bytes(size) } else { shapes::log(shape, size) };
+        let input = if call == Name::Hash { Random::new(size as u64).bytes(size) } else { shapes::log(shape, size) };
         let asked = || Asked::new(&input, DIRECTIONS.iter().position(|name| *name == direction).expect("a direction") as u8);
         let question = Question { direction: 0, entity: 0, time: 0 };
         let blank = |input| Case { call, question, input, work: 0, out: 0 };
         match call {
-            Call::Hash => Case { out: 32, ..blank(input) },
-            Call::Log => blank(input),
-            Call::Listing => Case { out: listing::text(&input).len(), ..blank(input) },
-            Call::Commitment => Case { work: WORK * size, out: COMMITMENT, ..blank(input) },
-            Call::Answer => {
+            Name::Hash => Case { out: 32, ..blank(input) },
+            Name::Log => blank(input),
+            Name::Listing => Case { out: listing::text(&input).len(), ..blank(input) },
+            Name::Commitment => Case { work: WORK * size, out: COMMITMENT, ..blank(input) },
+            Name::Answer => {
                 let Asked { question, answer, .. } = asked();
                 Case { question, work: WORK * size, out: answer.len(), ..blank(input) }
             }
-            Call::Check | Call::Records => {
+            Name::Check | Name::Records => {
                 let Asked { question, commitment, answer } = asked();
                 let work = WORK * pieces(&answer).records.len();
                 Case { question, work, ..blank([&commitment[..], &answer].concat()) }
@@ -80,24 +57,30 @@ impl Case {
     }
 
     pub fn lent(&self) -> Lent {
-        Lent { work: vec![0; self.work], out: vec![0; self.out] }
+        Lent { work: vec![0; self.work], out: vec![0; self.out], result: Fields::default() }
     }
 
-    /// Commitment and answer of a check.
-    fn checked(&self) -> (&[u8], &[u8]) {
-        self.input.split_at(COMMITMENT.min(self.input.len()))
+    /// The commitment, for check and records, and the message, the log or the answer.
+    fn parts(&self) -> (&[u8], &[u8]) {
+        let commitment = if matches!(self.call, Name::Check | Name::Records) { COMMITMENT.min(self.input.len()) } else { 0 };
+        self.input.split_at(commitment)
+    }
+
+    fn memory<'a>(&'a self, lent: &'a mut Lent) -> Memory<'a> {
+        let (commitment, input) = self.parts();
+        Memory { commitment, input, work: &mut lent.work, out: &mut lent.out }
     }
 
     /// The strings that the call hashes; of an answer those that its definition needs, which are the commitment's but the last, R.
     pub fn strings(&self) -> Vec<Vec<u8>> {
         let built = || building(sha256, &read(&self.input).expect("a sound log")).1;
         match self.call {
-            Call::Log | Call::Listing => Vec::new(),
-            Call::Hash => vec![self.input.clone()],
-            Call::Commitment => built(),
-            Call::Answer => built().into_iter().filter(|string| string[0] != b'R').collect(),
-            Call::Check | Call::Records => {
-                let (commitment, answer) = self.checked();
+            Name::Log | Name::Listing => Vec::new(),
+            Name::Hash => vec![self.input.clone()],
+            Name::Commitment => built(),
+            Name::Answer => built().into_iter().filter(|string| string[0] != b'R').collect(),
+            Name::Check | Name::Records => {
+                let (commitment, answer) = self.parts();
                 checking(sha256, &self.question, commitment.try_into().expect("32 bytes"), answer)
             }
         }
@@ -107,7 +90,7 @@ impl Case {
     pub fn words(&self) -> Vec<String> {
         let Question { direction, entity, time } = self.question;
         let numbers = [u64::from(direction), u64::from(entity), time, self.work as u64, self.out as u64];
-        [self.call.name()].into_iter().chain(numbers.map(|number| number.to_string())).collect()
+        [self.call.word()].into_iter().chain(numbers.map(|number| number.to_string())).collect()
     }
 
     pub fn from_words(words: &[String], input: Vec<u8>) -> Option<Self> {
@@ -117,46 +100,24 @@ impl Case {
             return None;
         };
         let question = Question { direction: direction as u8, entity: entity as u32, time };
-        Some(Case { call: Call::named(name)?, question, input, work: work as usize, out: out as usize })
+        Some(Case { call: Name::of_word(name)?, question, input, work: work as usize, out: out as usize })
     }
 }
 
-/// A side's call: the row's number, and the length, count or 0 that comes with it. The functions of both sides have the same arguments.
-macro_rules! side {
-    ($side:ident, $calls:ident) => {
-        pub fn $side(case: &Case, lent: &mut Lent) -> (u64, u64) {
-            let Question { direction, entity, time } = case.question;
-            let (input, Lent { work, out }) = (&case.input[..], lent);
-            let (commitment, answer) = case.checked();
-            match case.call {
-                Call::Hash => ($calls::hash(input, out).number, 0),
-                Call::Log => with_length!($calls::log(input)),
-                Call::Listing => with_length!($calls::listing(input, out)),
-                Call::Commitment => ($calls::commitment(input, work, out).number, 0),
-                Call::Answer => with_length!($calls::answer(direction, entity, time, input, work, out)),
-                Call::Check => {
-                    let checked = $calls::check(direction, entity, time, commitment, answer, work);
-                    (checked.number, checked.count)
-                }
-                Call::Records => (0, $calls::records(direction, entity, time, commitment, answer, work).length),
-            }
-        }
-    };
+/// The proved library's call.
+pub fn proved(case: &Case, lent: &mut Lent) {
+    lent.result = calls::proved(case.call, &case.question, case.memory(lent));
 }
 
-macro_rules! with_length {
-    ($result:expr) => {{
-        let written = $result;
-        (written.number, written.length)
-    }};
+/// The Rust version's call.
+pub fn plain_rust(case: &Case, lent: &mut Lent) {
+    lent.result = calls::plain_rust(case.call, &case.question, case.memory(lent));
 }
-
-side!(proved, exported);
-side!(plain_rust, reference);
 
 #[cfg(test)]
 mod tests {
     use super::*;
+    use calls::NAMES;
     use crate::heap::peak;
     use crate::stack::{used, written};
     use crate::table::subjects;
@@ -174,8 +135,9 @@ mod tests {
     fn both_sides_do_the_same_with_no_more_than_they_need() {
         for case in small() {
             let (mut own, mut other) = (case.lent(), case.lent());
-            let given = proved(&case, &mut own);
-            assert_eq!((given, given.0), (plain_rust(&case, &mut other), 0), "{case:?}");
+            proved(&case, &mut own);
+            plain_rust(&case, &mut other);
+            assert_eq!((own.result, own.result.get("number")), (other.result, 0), "{case:?}");
             assert_eq!(own.out, other.out);
             let (work, out) = (case.work.saturating_sub(1), case.out.saturating_sub(1));
             let less = [Case { work, ..case.clone() }, Case { out, ..case.clone() }];
@@ -184,24 +146,26 @@ mod tests {
     }
 
     fn refused(case: &Case) -> bool {
-        match proved(case, &mut case.lent()) {
-            (0, length) => case.call == Call::Records && length == 0,
-            (number, _) => number == 12 || number == 13,
+        let mut lent = case.lent();
+        proved(case, &mut lent);
+        match lent.result.get("number") {
+            0 => case.call == Name::Records && lent.result.get("length") == 0,
+            number => number == 12 || number == 13,
         }
     }
 
     /// Only the Rust version has a heap.
     #[test]
     fn the_sides_are_two() {
-        let case = Case::new(&Subject { call: Call::Commitment, direction: "-", shape: "mixed", size: 40 });
+        let case = Case::new(&Subject { call: Name::Commitment, direction: "-", shape: "mixed", size: 40 });
         let mut lent = case.lent();
-        assert_eq!(peak(|| { proved(&case, &mut lent); }), 0);
-        assert!(peak(|| { plain_rust(&case, &mut lent); }) > 40);
+        assert_eq!(peak(|| proved(&case, &mut lent)), 0);
+        assert!(peak(|| plain_rust(&case, &mut lent)) > 40);
     }
 
     /// The calls on a log, on logs that take lists of births of every length; a listing has at most 512 records.
     fn on_a_log() -> Vec<Case> {
-        let on_a_log = |call| matches!(call, Call::Log | Call::Listing | Call::Commitment | Call::Answer);
+        let on_a_log = |call| matches!(call, Name::Log | Name::Listing | Name::Commitment | Name::Answer);
         let rows = subjects().into_iter().filter(|subject| on_a_log(subject.call));
         rows.flat_map(|row| [40, 300, 1_024, 4_096, 20_000].map(|size| Case::new(&Subject { size, ..row }))).collect()
     }
@@ -210,8 +174,36 @@ mod tests {
     fn calls_on_a_log_take_at_most_300_000_bytes_of_stack() {
         for case in on_a_log() {
             let mut lent = case.lent();
-            let bytes = used(&mut || { proved(&case, &mut lent); });
+            let bytes = used(&mut || proved(&case, &mut lent));
             assert!(bytes <= 300_000, "{:?} of {} bytes: {bytes}", case.call, case.input.len());
+        }
+    }
+
+    /// What the viewer says of a call's stack.
+    fn said(call: Name) -> usize {
+        match call {
+            Name::Hash => viewer::stack::HASH,
+            Name::Log => viewer::stack::LOG,
+            Name::Listing => viewer::stack::LISTING,
+            Name::Commitment => viewer::stack::COMMITMENT,
+            Name::Answer => viewer::stack::ANSWER,
+            Name::Check => viewer::stack::CHECK,
+            Name::Records => viewer::stack::RECORDS,
+        }
+    }
+
+    /// No call takes more, and none is said to take twice what it does.
+    #[test]
+    fn calls_take_the_stack_that_the_viewer_says() {
+        let mut most = [0; NAMES.len()];
+        for case in small().into_iter().chain(on_a_log()) {
+            let mut lent = case.lent();
+            let bytes = used(&mut || proved(&case, &mut lent));
+            most[case.call as usize] = most[case.call as usize].max(bytes);
+        }
+        for call in NAMES {
+            let (bytes, said) = (most[call as usize], said(call));
+            assert!(bytes <= said && said < 2 * bytes, "{call:?} takes {bytes} bytes and is said to take {said}");
         }
     }
 
@@ -221,8 +213,8 @@ mod tests {
     fn a_short_log_writes_little_of_the_stack() {
         for case in on_a_log() {
             let mut lent = case.lent();
-            let bytes = written(&mut || { proved(&case, &mut lent); });
-            let most = 12_000 + case.input.len() * 5 / 4 + if case.call == Call::Listing { 131_072 } else { 0 };
+            let bytes = written(&mut || proved(&case, &mut lent));
+            let most = 12_000 + case.input.len() * 5 / 4 + if case.call == Name::Listing { 131_072 } else { 0 };
             assert!(bytes <= most, "{:?} of {} bytes: {bytes}", case.call, case.input.len());
         }
     }
@@ -244,15 +236,15 @@ mod tests {
     fn what_is_hashed() {
         let strings = |call, direction| Case::new(&Subject { call, direction, shape: "turns", size: 40 }).strings();
         let count = |strings: Vec<Vec<u8>>| b"IOLGNPR".map(|letter| letters(&strings, letter));
-        assert_eq!(count(strings(Call::Commitment, "-")), [40, 40, 40, 2, 38, 1, 1]);
+        assert_eq!(count(strings(Name::Commitment, "-")), [40, 40, 40, 2, 38, 1, 1]);
         for direction in DIRECTIONS {
-            assert_eq!(count(strings(Call::Answer, direction)), [40, 40, 40, 2, 38, 1, 0]);
+            assert_eq!(count(strings(Name::Answer, direction)), [40, 40, 40, 2, 38, 1, 0]);
         }
-        for call in [Call::Check, Call::Records] {
+        for call in [Name::Check, Name::Records] {
             assert_eq!(count(strings(call, "only")), [0, 0, 1, 1, 3, 1, 1]);
             assert_eq!(count(strings(call, "backward")), [40, 0, 1, 1, 3, 1, 1]);
             assert_eq!(count(strings(call, "forward")), [0, 39, 1, 1, 5, 1, 1]);
         }
-        assert!(strings(Call::Log, "-").is_empty() && strings(Call::Listing, "-").is_empty());
+        assert!(strings(Name::Log, "-").is_empty() && strings(Name::Listing, "-").is_empty());
     }
 }

@@ -9,7 +9,7 @@ pub fn count(case: &Case) -> Option<u64> {
     let program = std::env::current_exe().expect("this program's place").with_file_name("count");
     let started = Command::new("valgrind")
         .args(["--tool=callgrind", "--callgrind-out-file=/dev/null"])
-        .arg(format!("--toggle-collect=bozhtagul_{}", case.call.name()))
+        .arg(format!("--toggle-collect=bozhtagul_{}", case.call.word()))
         .arg(program)
         .args(case.words())
         .stdin(Stdio::piped())

@@ -19,7 +19,7 @@ pub fn log(shape: &str, records: usize) -> Vec<u8> {
             let born = (records / 4).max(2);
             let flow = |n: usize, random: &mut Random| {
                 let source = random.index(born);
-                let destination = (source + 1 + random.index(born - 1)) % born;
+                let destination = random.other(source, born);
                 Record::Flow { source: 3 * source as u32, destination: 3 * destination as u32, kind: random.byte(), time: n as u64 }
             };
             (0..records).map(|n| if n < born { birth(n) } else { flow(n, &mut random) }).collect()
@@ -40,7 +40,7 @@ fn mixed(records: usize, random: &mut Random) -> Vec<Record> {
             return Record::Birth { entity, time };
         }
         let source = random.index(born.len());
-        let destination = (source + 1 + random.index(born.len() - 1)) % born.len();
+        let destination = random.other(source, born.len());
         Record::Flow { source: born[source], destination: born[destination], kind: random.byte(), time }
     };
     (0..records).map(&mut record).collect()

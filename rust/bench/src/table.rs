@@ -1,6 +1,6 @@
 //! The rows of the table: what they measure, and how they are printed.
 
-use crate::case::Call;
+use calls::Name;
 
 /// A question's directions by number.
 pub const DIRECTIONS: [&str; 3] = ["only", "backward", "forward"];
@@ -8,7 +8,7 @@ pub const DIRECTIONS: [&str; 3] = ["only", "backward", "forward"];
 /// What a row measures.
 #[derive(Clone, Copy, Debug, PartialEq, Eq)]
 pub struct Subject {
-    pub call: Call,
+    pub call: Name,
     /// A dash for a call without a question.
     pub direction: &'static str,
     /// The log's shape; for hash the Rust version that it is compared with.
@@ -22,33 +22,33 @@ const GROWTH: [usize; 2] = [8_192, 65_535];
 
 /// Calls, directions and shapes: for log and commitment the mixed shape and the worst of the others by time, for the calls on a question
 /// the worse of two full histories by instructions.
-const KINDS: [(Call, &str, &str); 14] = [
-    (Call::Hash, "-", "tuned"),
-    (Call::Hash, "-", "plain"),
-    (Call::Log, "-", "mixed"),
-    (Call::Log, "-", "flows"),
-    (Call::Listing, "-", "flows"),
-    (Call::Commitment, "-", "mixed"),
-    (Call::Commitment, "-", "flows"),
-    (Call::Answer, "only", "busy"),
-    (Call::Answer, "backward", "busy"),
-    (Call::Answer, "forward", "turns"),
-    (Call::Check, "only", "busy"),
-    (Call::Check, "backward", "busy"),
-    (Call::Check, "forward", "turns"),
-    (Call::Records, "forward", "turns"),
+const KINDS: [(Name, &str, &str); 14] = [
+    (Name::Hash, "-", "tuned"),
+    (Name::Hash, "-", "plain"),
+    (Name::Log, "-", "mixed"),
+    (Name::Log, "-", "flows"),
+    (Name::Listing, "-", "flows"),
+    (Name::Commitment, "-", "mixed"),
+    (Name::Commitment, "-", "flows"),
+    (Name::Answer, "only", "busy"),
+    (Name::Answer, "backward", "busy"),
+    (Name::Answer, "forward", "turns"),
+    (Name::Check, "only", "busy"),
+    (Name::Check, "backward", "busy"),
+    (Name::Check, "forward", "turns"),
+    (Name::Records, "forward", "turns"),
 ];
 
-fn sizes(call: Call) -> &'static [usize] {
+fn sizes(call: Name) -> &'static [usize] {
     match call {
-        Call::Hash => &[97, 1 << 20],
-        Call::Listing => &[512],
+        Name::Hash => &[97, 1 << 20],
+        Name::Listing => &[512],
         _ => &[1_024, GROWTH[0], GROWTH[1]],
     }
 }
 
 pub fn subjects() -> Vec<Subject> {
-    let subject = |(call, direction, shape): (Call, &'static str, &'static str)| {
+    let subject = |(call, direction, shape): (Name, &'static str, &'static str)| {
         sizes(call).iter().map(move |&size| Subject { call, direction, shape, size })
     };
     KINDS.into_iter().flat_map(subject).collect()
@@ -102,7 +102,7 @@ impl Row {
         let bytes = |count: usize| short(self.a_record(count as f64));
         let [input, work, out] = self.lent.map(bytes);
         line([
-            call.name(),
+            call.word(),
             direction.to_string(),
             shape.to_string(),
             grouped(size),
@@ -160,21 +160,21 @@ fn grouped(number: usize) -> String {
 mod tests {
     use super::*;
 
-    fn row(call: Call, shape: &'static str, size: usize, instructions: Option<u64>) -> Row {
+    fn row(call: Name, shape: &'static str, size: usize, instructions: Option<u64>) -> Row {
         let subject = Subject { call, direction: "-", shape, size };
         Row { subject, seconds: 0.0, to_rust: 1.0, to_openssl: None, instructions, lent: [0; 3], stack: 0, heap: 0 }
     }
 
     #[test]
     fn growth_is_to_the_smaller_log_of_the_same_kind() {
-        let kinds = [(Call::Log, "mixed", 100), (Call::Log, "flows", 200), (Call::Commitment, "mixed", 400)];
+        let kinds = [(Name::Log, "mixed", 100), (Name::Log, "flows", 200), (Name::Commitment, "mixed", 400)];
         let before: Vec<Row> = kinds.map(|(call, shape, count)| row(call, shape, 8_192, Some(8_192 * count))).into();
-        for (call, shape, growth) in [(Call::Log, "mixed", 4.0), (Call::Log, "flows", 2.0), (Call::Commitment, "mixed", 1.0)] {
+        for (call, shape, growth) in [(Name::Log, "mixed", 4.0), (Name::Log, "flows", 2.0), (Name::Commitment, "mixed", 1.0)] {
             assert_eq!(row(call, shape, 65_535, Some(65_535 * 400)).growth(&before), Some(growth));
             assert_eq!(row(call, shape, 1_024, Some(1_024)).growth(&before), None);
             assert_eq!(row(call, shape, 65_535, None).growth(&before), None);
         }
-        assert_eq!(row(Call::Commitment, "flows", 65_535, Some(1)).growth(&before), None);
+        assert_eq!(row(Name::Commitment, "flows", 65_535, Some(1)).growth(&before), None);
     }
 
     #[test]
@@ -187,7 +187,7 @@ mod tests {
 
     #[test]
     fn a_line_is_by_the_record() {
-        let subject = Subject { call: Call::Check, direction: "forward", shape: "busy", size: 2_000 };
+        let subject = Subject { call: Name::Check, direction: "forward", shape: "busy", size: 2_000 };
         let row = Row {
             subject,
             seconds: 0.003,

@@ -1,22 +1,14 @@
 //! The library's calls with the memory that they need.
 
-use viewer::{Question, Refusal, Verdict};
+use viewer::{Checked, Direction, Question, Refusal, DIGEST, MOST_LISTING, MOST_RECORDS};
 
-/// A log and a trace have at most this many records.
-const MOST_RECORDS: usize = 65_535;
-
-/// A proof and its trace's header have at most this many bytes. A record of the trace has at most 22, its record in the log at least 13.
-const MOST_PROOF: usize = 3_211;
-const MOST_RECORD: usize = 22;
+/// A record of a log has at least this many bytes.
 const LEAST_LOGGED: usize = 13;
 
 /// No answer about a log of that many bytes is longer.
 pub fn most_answer(log: usize) -> usize {
-    MOST_PROOF + MOST_RECORD * (log / LEAST_LOGGED)
+    viewer::most_answer(Direction::Forward, log / LEAST_LOGGED)
 }
-
-/// The listing program's text has at most so many bytes.
-const MOST_LISTING: usize = 65_536;
 
 /// What the listing program prints for a log.
 pub fn listing(log: &[u8]) -> Result<Vec<u8>, Refusal> {
@@ -26,45 +18,35 @@ pub fn listing(log: &[u8]) -> Result<Vec<u8>, Refusal> {
     Ok(out)
 }
 
-pub fn hash(message: &[u8]) -> [u8; 32] {
-    let mut out = [0; 32];
+pub fn hash(message: &[u8]) -> [u8; DIGEST] {
+    let mut out = [0; DIGEST];
     viewer::hash(message, &mut out).expect("32 bytes are enough");
     out
 }
 
-pub fn commitment(log: &[u8]) -> Result<[u8; 32], Refusal> {
+pub fn commitment(log: &[u8]) -> Result<[u8; DIGEST], Refusal> {
     let records = viewer::log(log)? as usize;
-    let mut out = [0; 32];
+    let mut out = [0; DIGEST];
     viewer::commitment(log, &mut viewer::work_area(records), &mut out)?;
     Ok(out)
 }
 
 pub fn answer(question: &Question, log: &[u8]) -> Result<Vec<u8>, Refusal> {
     let records = viewer::log(log)? as usize;
-    let mut out = vec![0; most_answer(log.len())];
+    let mut out = vec![0; viewer::most_answer(question.direction, records)];
     let length = viewer::answer(question, log, &mut viewer::work_area(records), &mut out)?;
     out.truncate(length as usize);
     Ok(out)
 }
 
-/// What an accepted answer says, and its checked records.
-#[derive(Debug)]
-pub struct Checked<'a> {
-    pub verdict: Verdict,
-    pub records: &'a [u8],
-}
-
 /// Checks an answer. The work area is enough for every trace, so that no answer meets row 12.
-pub fn checked<'a>(question: &Question, commitment: &[u8; 32], answer: &'a [u8]) -> Result<Checked<'a>, Refusal> {
-    let mut work = viewer::work_area(MOST_RECORDS);
-    let verdict = viewer::check(question, commitment, answer, &mut work)?;
-    Ok(Checked { verdict, records: viewer::records(question, commitment, answer, &mut work) })
+pub fn checked<'a>(question: &Question, commitment: &[u8; DIGEST], answer: &'a [u8]) -> Result<Checked<'a>, Refusal> {
+    viewer::checked(question, commitment, answer, &mut viewer::work_area(MOST_RECORDS))
 }
 
 #[cfg(test)]
 mod tests {
     use super::*;
-    use viewer::Direction;
 
     #[test]
     fn a_trace_that_claims_more_than_it_holds_is_cut_short() {

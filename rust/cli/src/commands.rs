@@ -1,10 +1,14 @@
 //! The commands, each with its words, its help and what it does.
 
-use viewer::{Question, Refusal};
+use reference::hex::to_hex;
+use viewer::{Checked, Question, Refusal};
 
-use crate::args::{self, Words};
-use crate::calls::{self, Checked};
+use crate::args;
+use crate::calls;
+use crate::command::{Command, Words};
 use crate::demo;
+use crate::digests;
+use crate::explain;
 use crate::failure::{Done, Failure};
 use crate::files;
 use crate::forge;
@@ -13,33 +17,6 @@ use crate::mark;
 use crate::rows;
 use crate::svg;
 use crate::textlog;
-
-pub struct Command {
-    /// One word, or two of which the second is an option.
-    pub name: &'static str,
-    /// The words that have to follow the name.
-    pub words: &'static str,
-    pub options: &'static [&'static str],
-    /// The options as the help shows them.
-    pub shown: &'static str,
-    pub about: &'static str,
-    pub details: &'static str,
-    pub run: fn(&Words) -> Done,
-}
-
-impl Command {
-    pub fn usage(&self) -> String {
-        let parts = ["bozhtagul", self.name, self.words, self.shown];
-        parts.into_iter().filter(|part| !part.is_empty()).collect::<Vec<_>>().join(" ")
-    }
-
-    /// What follows the command's name, if the words begin with it.
-    fn after_name<'a>(&self, words: &'a [String]) -> Option<&'a [String]> {
-        let name: Vec<&str> = self.name.split(' ').collect();
-        let (first, rest) = words.split_at_checked(name.len())?;
-        (first == name).then_some(rest)
-    }
-}
 
 /// The command that some words call, the one with the longest name, and what follows its name.
 pub fn called(words: &[String]) -> Option<(&'static Command, &[String])> {
@@ -97,12 +74,24 @@ and empty lines are passed over. A log that is not sound is written all the same
         run: answer,
     },
     Command {
+        name: "ask",
+        words: "LOG DIRECTION ENTITY TIME",
+        options: &[],
+        shown: "",
+        about: "commits to a log, answers a question about it, checks the answer and shows its history, all in one go",
+        details: "",
+        run: ask,
+    },
+    Command {
         name: "check",
         words: "COMMITMENT DIRECTION ENTITY TIME ANSWER",
         options: &[],
         shown: "",
         about: "what an answer says, if it is the true one; else the row that refuses it",
-        details: "A refusal is said as 'refused NUMBER at POSITION: CAUSE', with status 1.\n",
+        details: "\
+What was checked is said too: 'accepted: 2 at 35, backward: found 2 at 30, 3 records'. A refusal is said as 'refused NUMBER at
+POSITION: CAUSE', with status 1.
+",
         run: check,
     },
     Command {
@@ -118,15 +107,41 @@ With '--svg -' the picture alone is written.
         run: show,
     },
     Command {
+        name: "explain",
+        words: "ANSWER",
+        options: &[],
+        shown: "",
+        about: "any answer as a table: place, bytes, and what they are, up to the first thing that cannot be read",
+        details: "\
+Nothing is checked: of the letters that may stand at a place each is read, whatever the question was. What cannot be read is said in the
+last line, with status 1.
+",
+        run: explain::run,
+    },
+    Command {
+        name: "digests",
+        words: "LOG",
+        options: &[],
+        shown: "",
+        about: "the incoming and the outgoing path digest of each version of a log",
+        details: "They are worked out by the independent Rust version: the proved library has no call that gives them.\n",
+        run: digests::run,
+    },
+    Command {
         name: "mark",
-        words: "HOST",
+        words: "HOST..",
         options: &["--seed", "--limit", "--keep"],
-        shown: "[--seed NUMBER] [--limit SECONDS] [--keep FILE]",
-        about: "runs a participant's program on made logs, and counts the answers that the check accepts",
+        shown: "[--seed NUMBER] [--limit SECONDS] [--keep FOLDER] [-- PROGRAM WORD..]",
+        about: "runs participants' programs on made logs, and counts the answers that the check accepts",
         details: "\
 HOST is run once for each question, with the direction (0, 1 or 2), the entity and the time as its words and the log on standard input;
-it writes the answer to standard output and ends with status 0, within 10 seconds or the limit given. The seed settles the logs and
-the questions; --keep writes the log of the first answer that was not accepted. The status is 0 if all are accepted.
+it writes the answer to standard output and ends with status 0, within 10 seconds or the limit given. It is run as any program of yours
+is: nothing confines it. What follows '--' is put before HOST, or is the host if none is named: 'mark -- python3 host.py'.
+
+One HOST has a line a log. Several have a line each, with the same questions for all; a folder stands for the files in it, and for the
+file 'host' of each folder in it. The seed settles the logs and the questions; without one, a fresh one is drawn from the system's random
+source, and the heading has it, so that the mark can be taken again. --keep writes of the first answer that was not accepted the log, the
+question, the answer and what is said of it, of several hosts in a folder each. The status is 0 if all answers are accepted.
 ",
         run: mark::run,
     },
@@ -149,22 +164,22 @@ fn log(words: &Words) -> Done {
     let given = files::read(name)?;
     let called = files::input_name(name);
     let (log, result) = if words.option("--text").is_some() {
-        let text = textlog::to_text(&given).map_err(|refusal| refused_log(name, &refusal))?;
+        let text = textlog::to_text(&given).map_err(|refusal| rows::refused_log(name, &refusal))?;
         (given, text.into_bytes())
     } else {
         let log = textlog::to_bytes(&given).map_err(|reason| Failure::Use(format!("{called}: {reason}")))?;
         (log.clone(), log)
     };
     if let Err(refusal) = viewer::log(&log) {
-        eprintln!("bozhtagul: {called}: the log is not sound: {}", rows::said(&refusal));
+        eprintln!("bozhtagul: {called}: the log is not sound: {refusal}");
     }
     files::write(words.output(), &result)
 }
 
 fn list(words: &Words) -> Done {
     let name = words.plain(0);
-    let log = files::read(name)?;
-    let refused = |refusal: Refusal| refused_log(name, &refusal);
+    let log = files::read_log(name)?;
+    let refused = |refusal: Refusal| rows::refused_log(name, &refusal);
     let listing = calls::listing(&log).map_err(refused)?;
     files::write("-", &listing)?;
     if listing == b"too long\n" {
@@ -175,23 +190,18 @@ fn list(words: &Words) -> Done {
 
 fn commit(words: &Words) -> Done {
     let name = words.plain(0);
-    let commitment = calls::commitment(&files::read(name)?).map_err(|refusal| refused_log(name, &refusal))?;
+    let commitment = calls::commitment(&files::read_log(name)?).map_err(|refusal| rows::refused_log(name, &refusal))?;
     match words.option("--raw") {
         Some(_) => files::write(words.output(), &commitment),
-        None => files::write(words.output(), format!("{}\n", args::to_hex(&commitment)).as_bytes()),
+        None => files::write(words.output(), format!("{}\n", to_hex(&commitment)).as_bytes()),
     }
 }
 
 fn answer(words: &Words) -> Done {
     let question = words.question(1)?;
     let name = words.plain(0);
-    let answer = calls::answer(&question, &files::read(name)?).map_err(|refusal| refused_log(name, &refusal))?;
+    let answer = calls::answer(&question, &files::read_log(name)?).map_err(|refusal| rows::refused_log(name, &refusal))?;
     files::write(words.output(), &answer)
-}
-
-/// A log that a call refused.
-pub fn refused_log(name: &str, refusal: &Refusal) -> Failure {
-    Failure::Log(format!("{}: {}", files::input_name(name), rows::said(refusal)))
 }
 
 /// What `check` and `show` have in common: the question, and the answer's bytes checked against the commitment.
@@ -202,13 +212,29 @@ fn with_checked(words: &Words, then: impl FnOnce(&Question, &Checked) -> Done) -
     let commitment = args::commitment(commitment)?;
     let answer = files::read(answer)?;
     let checked = calls::checked(&question, &commitment, &answer);
-    then(&question, &checked.map_err(|refusal| Failure::Answer(rows::said(&refusal)))?)
+    then(&question, &checked.map_err(|refusal| Failure::Answer(refusal.to_string()))?)
 }
 
 fn check(words: &Words) -> Done {
-    with_checked(words, |question, checked| {
-        files::write("-", format!("{}\n", history::verdict(question, &checked.verdict)).as_bytes())
-    })
+    with_checked(words, |question, checked| files::write("-", accepted(question, checked).as_bytes()))
+}
+
+/// What an accepted answer says, with the question that it was checked for: two words that were exchanged show.
+fn accepted(question: &Question, checked: &Checked) -> String {
+    format!("accepted: {}: {}\n", history::asked(question), history::verdict(question, &checked.verdict))
+}
+
+/// Commits, answers, checks and shows.
+fn ask(words: &Words) -> Done {
+    let question = words.question(1)?;
+    let name = words.plain(0);
+    let log = files::read_log(name)?;
+    let refused = |refusal: Refusal| rows::refused_log(name, &refusal);
+    let commitment = calls::commitment(&log).map_err(refused)?;
+    let answer = calls::answer(&question, &log).map_err(refused)?;
+    let checked = calls::checked(&question, &commitment, &answer).map_err(|refusal| Failure::Answer(refusal.to_string()))?;
+    let text = History::of(&question, &checked).text();
+    files::write("-", format!("commitment {}\n{}{text}", to_hex(&commitment), accepted(&question, &checked)).as_bytes())
 }
 
 fn show(words: &Words) -> Done {

@@ -1,13 +1,13 @@
 //! A small log from beginning to end.
 
+use reference::hex::to_hex;
 use viewer::{Direction, Question, Refusal};
 
-use crate::args::{to_hex, Words};
 use crate::calls;
+use crate::command::Words;
 use crate::failure::{Done, Failure};
 use crate::files;
 use crate::history::{self, History};
-use crate::rows;
 use crate::textlog;
 
 /// Document 01's Log K.
@@ -18,7 +18,7 @@ const QUESTIONS: [Question; 2] =
 
 pub fn run(_: &Words) -> Done {
     let log = textlog::to_bytes(LOG_K.as_bytes()).map_err(Failure::Use)?;
-    let text = told(&log).map_err(|refusal| Failure::Log(rows::said(&refusal)))?;
+    let text = told(&log).map_err(|refusal| Failure::Log(refusal.to_string()))?;
     files::write("-", text.as_bytes())
 }
 
@@ -58,7 +58,7 @@ fn altered(question: &Question, log: &[u8], commitment: &[u8; 32]) -> Result<Str
     answer[place] ^= 1;
     let said = match calls::checked(question, commitment, &answer) {
         Ok(checked) => history::verdict(question, &checked.verdict),
-        Err(refusal) => rows::said(&refusal),
+        Err(refusal) => refusal.to_string(),
     };
     let heading = format!("The same answer to '{}' with byte {place} changed from {before} to {}", history::asked(question), answer[place]);
     Ok(part(&heading, &said))

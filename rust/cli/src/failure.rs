@@ -1,8 +1,4 @@
-//! How a command ends when it does not succeed: what is said, where, and the exit status.
-
-use std::process::ExitCode;
-
-use crate::files;
+//! How a command ends when it does not succeed.
 
 pub type Done = Result<(), Failure>;
 
@@ -14,22 +10,4 @@ pub enum Failure {
     Log(String),
     /// The words were wrong, or a file could not be read or written: standard error, status 2.
     Use(String),
-}
-
-impl Failure {
-    pub fn say(self) -> ExitCode {
-        match self {
-            Failure::Answer(text) => match files::write("-", format!("{text}\n").as_bytes()) {
-                Ok(()) => ExitCode::from(1),
-                Err(failure) => failure.say(),
-            },
-            Failure::Log(text) => said(&text, 1),
-            Failure::Use(text) => said(&text, 2),
-        }
-    }
-}
-
-fn said(text: &str, status: u8) -> ExitCode {
-    eprintln!("bozhtagul: {}", text.trim_end());
-    ExitCode::from(status)
 }

@@ -1,11 +1,12 @@
 //! Part two of the practical: whether a false answer passed, and if it did, what that shows.
 
 use reference::collision::{self, Collision};
+use reference::hex::to_hex;
 use viewer::{Question, Refusal};
 
-use crate::args::{self, to_hex, Words};
+use crate::args;
 use crate::calls;
-use crate::commands::refused_log;
+use crate::command::Words;
 use crate::failure::{Done, Failure};
 use crate::files;
 use crate::rows;
@@ -23,9 +24,9 @@ pub fn run(words: &Words) -> Done {
     let question = words.question(2)?;
     let (answer, name) = (words.plain(0), words.plain(1));
     args::one_input(answer, name)?;
-    let (answer, log) = (files::read(answer)?, files::read(name)?);
-    match outcome(&question, &log, &answer).map_err(|refusal| refused_log(name, &refusal))? {
-        Outcome::Refused(refusal) => Err(Failure::Answer(format!("not passed: {}", rows::said(&refusal)))),
+    let (answer, log) = (files::read(answer)?, files::read_log(name)?);
+    match outcome(&question, &log, &answer).map_err(|refusal| rows::refused_log(name, &refusal))? {
+        Outcome::Refused(refusal) => Err(Failure::Answer(format!("not passed: {refusal}"))),
         Outcome::Defined => Err(Failure::Answer("not false: this is the true answer".into())),
         Outcome::Passed(collision) => files::write("-", passed(collision.as_ref())?.as_bytes()),
     }

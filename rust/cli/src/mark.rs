@@ -1,127 +1,165 @@
-//! Marks a participant's program: questions about logs of rising size, each answer held to the proved check.
+//! Marks participants' programs: questions about logs of rising size, each answer held to the proved check.
 
-use std::collections::BTreeMap;
-use std::time::{Duration, Instant};
+use std::fs;
+use std::io;
+use std::path::Path;
+use std::time::Instant;
 
-use viewer::{Direction, Question, Refusal};
+use reference::random::Random;
+use viewer::{Question, DIRECTIONS};
 
-use crate::args::Words;
 use crate::calls;
+use crate::command::Words;
+use crate::difference;
 use crate::failure::{Done, Failure};
 use crate::files;
 use crate::history;
 use crate::host::Host;
-use crate::rows;
-use crate::sample::{self, Random};
+use crate::hosts::{self, Hosts};
+use crate::sample;
+use crate::seed;
+use crate::tally::{Marked, Tally, HEADING};
 use crate::textlog;
 
 /// The sizes of the logs, in records, and how often each direction is asked for each.
 const SIZES: [usize; 8] = [1, 2, 4, 16, 64, 256, 1024, 4096];
 const TIMES: usize = 4;
-const DIRECTIONS: [Direction; 3] = [Direction::VersionOnly, Direction::Backward, Direction::Forward];
 
-/// What became of an answer.
-enum Marked {
-    Accepted,
-    Refused(Refusal),
-    /// There was none, for a reason.
-    Failed(String),
-}
-
-/// The first answer that was not accepted.
+/// The first answer of a program that was not accepted.
 struct Fault {
     log: Vec<u8>,
+    question: Question,
+    /// None if there was no answer.
+    answer: Option<Vec<u8>>,
     said: String,
 }
 
-#[derive(Default)]
-struct Tally {
-    asked: usize,
-    accepted: usize,
-    failed: usize,
-    /// How often each row was met.
-    refused: BTreeMap<u64, usize>,
-    time: Duration,
-}
-
-impl Tally {
-    fn add(&mut self, marked: &Marked, time: Duration) {
-        self.asked += 1;
-        self.time += time;
-        match marked {
-            Marked::Accepted => self.accepted += 1,
-            Marked::Refused(refusal) => *self.refused.entry(refusal.number).or_default() += 1,
-            Marked::Failed(_) => self.failed += 1,
-        }
-    }
-
-    fn add_all(&mut self, other: Tally) {
-        self.asked += other.asked;
-        self.accepted += other.accepted;
-        self.failed += other.failed;
-        self.time += other.time;
-        for (row, times) in other.refused {
-            *self.refused.entry(row).or_default() += times;
-        }
-    }
-
-    fn line(&self, name: &str) -> String {
-        let rows: Vec<String> = self.refused.iter().map(|(row, times)| format!("{times} by row {row}")).collect();
-        let rows = if rows.is_empty() { "none".to_string() } else { rows.join(", ") };
-        let seconds = self.time.as_secs_f64();
-        format!("{name:>8} {:>6} {:>9} {:>10} {seconds:>8.2}  {rows}\n", self.asked, self.accepted, self.failed)
-    }
-}
-
 pub fn run(words: &Words) -> Done {
-    let host = Host { program: words.plain(0), limit: Duration::from_secs(words.number("--limit", 10)?) };
-    let mut random = Random(words.number("--seed", 1)?);
-    let (mut all, mut first) = (Tally::default(), None);
-    files::write("-", b" records  asked  accepted  no answer  seconds  refused\n")?;
-    for size in SIZES {
-        let tally = round(&host, &mut random, size, &mut first)?;
-        files::write("-", tally.line(&size.to_string()).as_bytes())?;
-        all.add_all(tally);
-    }
-    files::write("-", all.line("all").as_bytes())?;
-    match first {
-        None => Ok(()),
-        Some(fault) => {
-            words.option("--keep").map_or(Ok(()), |file| files::write(file, &fault.log))?;
-            Err(Failure::Answer(format!("first not accepted: {}", fault.said)))
-        }
+    let hosts = hosts::of(words)?;
+    let seed = seed::of(words)?;
+    let keep = words.option("--keep").map(Path::new);
+    match hosts {
+        Hosts::One(host) => one(&host, seed, keep),
+        Hosts::Class(hosts) => class(&hosts, seed, keep),
     }
 }
 
-/// All questions about one log.
-fn round(host: &Host, random: &mut Random, size: usize, first: &mut Option<Fault>) -> Result<Tally, Failure> {
+/// One program: a line a log, and what is said of its first answer that was not accepted.
+fn one(host: &Host, seed: u64, keep: Option<&Path>) -> Done {
+    let mut heading = format!("seed {seed}\n{:>8}{HEADING}\n", "records");
+    let (all, first) = marked(host, seed, false, |size, tally| {
+        files::write("-", (std::mem::take(&mut heading) + &tally.line(&format!("{size:>8}"))).as_bytes())
+    })?;
+    files::write("-", all.line(&format!("{:>8}", "all")).as_bytes())?;
+    let Some(fault) = first else { return Ok(()) };
+    keep.map_or(Ok(()), |folder| fault.keep(folder))?;
+    Err(Failure::Answer(fault.said))
+}
+
+/// Several programs, with the same questions for all: a line each.
+fn class(hosts: &[Host], seed: u64, keep: Option<&Path>) -> Done {
+    let width = hosts.iter().map(|host| host.name.chars().count()).max().unwrap_or(0);
+    files::write("-", format!("seed {seed}\n{:<width$}{HEADING}\n", "host").as_bytes())?;
+    let mut full = 0;
+    for host in hosts {
+        let name = format!("{:<width$}", host.name);
+        let line = match is_there(host).and_then(|()| marked(host, seed, true, |_, _| Ok(()))) {
+            Err(Failure::Use(reason)) => format!("{name}  not started: {reason}\n"),
+            Err(failure) => return Err(failure),
+            Ok((all, first)) => {
+                full += usize::from(first.is_none());
+                let folder = keep.map(|folder| folder.join(host.name.replace('/', "_")));
+                first.zip(folder).map_or(Ok(()), |(fault, folder)| fault.keep(&folder))?;
+                all.line(&name)
+            }
+        };
+        files::write("-", line.as_bytes())?;
+    }
+    let said = format!("{full} of {} have full marks", hosts.len());
+    match full == hosts.len() {
+        true => files::write("-", format!("{said}\n").as_bytes()),
+        false => Err(Failure::Answer(said)),
+    }
+}
+
+/// A file that another program is to start has to be there: else that one fails for each question, and nobody sees why.
+fn is_there(host: &Host) -> Done {
+    match host.words.len() == 1 || Path::new(&host.name).is_file() {
+        true => Ok(()),
+        false => Err(Failure::Use(format!("{}: there is no such file", host.name))),
+    }
+}
+
+/// All questions to one program. Each log's tally is handed on as soon as it is there.
+fn marked(host: &Host, seed: u64, quiet: bool, mut each: impl FnMut(usize, &Tally) -> Done) -> Result<(Tally, Option<Fault>), Failure> {
+    let (mut random, mut all, mut first) = (Random::new(seed), Tally::default(), None);
+    for size in SIZES {
+        let tally = round(host, &mut random, size, quiet, &mut first)?;
+        each(size, &tally)?;
+        all.add_all(&tally);
+    }
+    Ok((all, first))
+}
+
+/// All questions about one log. What the program writes to standard error is shown up to its first answer that is not accepted.
+fn round(host: &Host, random: &mut Random, size: usize, quiet: bool, first: &mut Option<Fault>) -> Result<Tally, Failure> {
     let sample = sample::log(random, size);
     let log = textlog::to_bytes(sample.text.as_bytes()).map_err(Failure::Use)?;
-    let commitment = calls::commitment(&log).map_err(|refusal| Failure::Log(rows::said(&refusal)))?;
+    let commitment = calls::commitment(&log).map_err(|refusal| Failure::Log(refusal.to_string()))?;
     let mut tally = Tally::default();
     for direction in DIRECTIONS.into_iter().cycle().take(TIMES * DIRECTIONS.len()) {
         let question = sample::question(random, &sample, direction);
         let start = Instant::now();
-        let answer = host.ask(&question, &log)?;
+        let answer = host.ask(&question, &log, quiet || first.is_some())?;
         let time = start.elapsed();
         let marked = match answer {
             Err(reason) => Marked::Failed(reason),
-            Ok(answer) => calls::checked(&question, &commitment, &answer).map_or_else(Marked::Refused, |_| Marked::Accepted),
+            Ok(answer) => match calls::checked(&question, &commitment, &answer) {
+                Ok(_) => Marked::Accepted,
+                Err(refusal) => Marked::Refused(answer, refusal),
+            },
         };
         tally.add(&marked, time);
-        if let Some(said) = fault(&question, size, &marked) {
-            first.get_or_insert_with(|| Fault { log: log.clone(), said });
+        if first.is_none() {
+            *first = Fault::of(marked, question, &log, size);
         }
     }
     Ok(tally)
 }
 
-/// What is said of an answer that was not accepted.
-fn fault(question: &Question, size: usize, marked: &Marked) -> Option<String> {
-    let reason = match marked {
-        Marked::Accepted => return None,
-        Marked::Refused(refusal) => rows::said(refusal),
-        Marked::Failed(reason) => reason.clone(),
-    };
-    Some(format!("{}, log of size {size}: {reason}", history::asked(question)))
+impl Fault {
+    /// None if the answer was accepted.
+    fn of(marked: Marked, question: Question, log: &[u8], size: usize) -> Option<Fault> {
+        let (reason, answer) = match marked {
+            Marked::Accepted => return None,
+            Marked::Failed(reason) => (reason, None),
+            Marked::Refused(answer, refusal) => {
+                let truth = calls::answer(&question, log).ok()?;
+                let difference = difference::said(&answer, &truth)?;
+                (format!("{}\nfirst difference from the true answer: {difference}", refusal), Some(answer))
+            }
+        };
+        let said = format!("first not accepted: {}, log of size {size}: {reason}", history::asked(&question));
+        Some(Fault { log: log.to_vec(), question, answer, said })
+    }
+
+    /// Writes the log, the question in the program's three words, the answer if there is one, and what is said of it.
+    fn keep(&self, folder: &Path) -> Done {
+        self.kept(folder).map_err(|reason| Failure::Use(format!("{}: {reason}", folder.display())))
+    }
+
+    fn kept(&self, folder: &Path) -> io::Result<()> {
+        let Question { direction, entity, time } = self.question;
+        fs::create_dir_all(folder)?;
+        fs::write(folder.join("log"), &self.log)?;
+        fs::write(folder.join("question"), format!("{} {entity} {time}\n", direction.number()))?;
+        fs::write(folder.join("said"), format!("{}\n", self.said))?;
+        let answer = folder.join("answer");
+        match &self.answer {
+            Some(bytes) => fs::write(answer, bytes),
+            // one of an earlier mark would be taken for this one's
+            None if answer.exists() => fs::remove_file(answer),
+            None => Ok(()),
+        }
+    }
 }

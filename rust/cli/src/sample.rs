@@ -1,27 +1,7 @@
 //! Sound logs and questions about them, the same for the same seed.
 
+use reference::random::Random;
 use viewer::{Direction, Question};
-
-/// A generator of numbers (SplitMix64).
-pub struct Random(pub u64);
-
-impl Random {
-    fn number(&mut self) -> u64 {
-        self.0 = self.0.wrapping_add(0x9e37_79b9_7f4a_7c15);
-        let mut z = self.0;
-        z = (z ^ (z >> 30)).wrapping_mul(0xbf58_476d_1ce4_e5b9);
-        z = (z ^ (z >> 27)).wrapping_mul(0x94d0_49bb_1331_11eb);
-        z ^ (z >> 31)
-    }
-
-    fn below(&mut self, limit: u64) -> u64 {
-        self.number() % limit
-    }
-
-    fn pick<T: Copy>(&mut self, list: &[T]) -> T {
-        list[self.below(list.len() as u64) as usize]
-    }
-}
 
 /// A sound log in its text form, with what questions about it are made from.
 pub struct Sample {
@@ -86,14 +66,14 @@ mod tests {
     #[test]
     fn logs_are_sound_and_have_the_records_asked_for() {
         for (seed, records) in [(1, 1), (2, 2), (3, 3), (4, 50), (5, 1000)] {
-            let log = textlog::to_bytes(log(&mut Random(seed), records).text.as_bytes()).unwrap();
+            let log = textlog::to_bytes(log(&mut Random::new(seed), records).text.as_bytes()).unwrap();
             assert_eq!(viewer::log(&log), Ok(records as u64));
         }
     }
 
     #[test]
     fn numbers_come_from_both_halves_of_their_fields() {
-        let logs: Vec<Sample> = (1..20).map(|seed| log(&mut Random(seed), 64)).collect();
+        let logs: Vec<Sample> = (1..20).map(|seed| log(&mut Random::new(seed), 64)).collect();
         let entities: Vec<u32> = logs.iter().flat_map(|log| log.entities.clone()).collect();
         let times: Vec<u64> = logs.iter().flat_map(|log| log.times.clone()).collect();
         assert!(entities.contains(&0) && times.contains(&0));
@@ -102,13 +82,13 @@ mod tests {
 
     #[test]
     fn a_seed_gives_one_log() {
-        assert_eq!(log(&mut Random(7), 20).text, log(&mut Random(7), 20).text);
-        assert_ne!(log(&mut Random(7), 20).text, log(&mut Random(8), 20).text);
+        assert_eq!(log(&mut Random::new(7), 20).text, log(&mut Random::new(7), 20).text);
+        assert_ne!(log(&mut Random::new(7), 20).text, log(&mut Random::new(8), 20).text);
     }
 
     #[test]
     fn every_verdict_is_asked_for() {
-        let mut random = Random(1);
+        let mut random = Random::new(1);
         let sample = log(&mut random, 30);
         let log = textlog::to_bytes(sample.text.as_bytes()).unwrap();
         let commitment = crate::calls::commitment(&log).unwrap();

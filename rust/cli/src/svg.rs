@@ -5,7 +5,9 @@
 
 use std::collections::BTreeMap;
 
-use crate::history::{Edge, History, Version};
+use viewer::{Edge, Record};
+
+use crate::history::{name, History};
 
 /// The width of a character and the height of a line, in pixels.
 const CHARACTER: usize = 7;
@@ -60,17 +62,17 @@ struct Layout {
 
 impl Layout {
     fn new(history: &History) -> Layout {
-        let mut lanes: BTreeMap<u32, usize> = history.versions.iter().map(|version| (version.entity, 0)).collect();
+        let mut lanes: BTreeMap<u32, usize> = history.records.iter().map(|record| (record.entity(), 0)).collect();
         let widest = lanes.keys().map(|entity| entity.to_string().len()).max().unwrap_or(0);
         let width = LEAST_LANE.max(CHARACTER * widest + GAP);
         let first = MARGIN + CHARACTER * "entity".len() + GAP;
         lanes.values_mut().enumerate().for_each(|(place, x)| *x = first + width * place);
         let top = MARGIN + 3 * LINE;
-        Layout { lanes, top, bottom: top + ROW * history.versions.len() }
+        Layout { lanes, top, bottom: top + ROW * history.records.len() }
     }
 
-    fn lane(&self, version: &Version) -> usize {
-        self.lanes[&version.entity]
+    fn lane(&self, record: &Record) -> usize {
+        self.lanes[&record.entity()]
     }
 
     fn row(&self, position: usize) -> usize {
@@ -84,12 +86,12 @@ pub fn picture(title: &str, history: &History) -> String {
     let mut picture = Picture { body: String::new(), width: 0 };
     picture.label("title", MARGIN, MARGIN + LINE / 2, title);
     lanes(&mut picture, &layout);
-    for (position, version) in history.versions.iter().enumerate() {
-        for edge in &version.edges {
-            picture.put(&path(&layout, history, edge, position));
+    for (position, record) in history.records.iter().enumerate() {
+        for edge in record.edges() {
+            picture.put(&path(&layout, history, &edge, position));
         }
     }
-    for position in 0..history.versions.len() {
+    for position in 0..history.records.len() {
         node(&mut picture, &layout, history, position);
     }
     whole(picture.width, layout.bottom + MARGIN, &picture.body)
@@ -125,7 +127,7 @@ fn lanes(picture: &mut Picture, layout: &Layout) {
 /// An edge: straight down in one lane; else down beside the lane that it leaves, and across in the row of its end.
 fn path(layout: &Layout, history: &History, edge: &Edge, end: usize) -> String {
     let class = if edge.kind.is_some() { "dependency" } else { "temporal" };
-    let (from, to) = (layout.lane(&history.versions[edge.start]), layout.lane(&history.versions[end]));
+    let (from, to) = (layout.lane(&history.records[edge.start]), layout.lane(&history.records[end]));
     let (start, row) = (layout.row(edge.start), layout.row(end));
     let near = RADIUS + 2;
     let way = if from == to {
@@ -143,10 +145,10 @@ fn path(layout: &Layout, history: &History, edge: &Edge, end: usize) -> String {
 
 /// A version's point, and its label above the row's line.
 fn node(picture: &mut Picture, layout: &Layout, history: &History, position: usize) {
-    let version = &history.versions[position];
-    let (x, y) = (layout.lane(version), layout.row(position));
-    let mut text = version.name();
-    for kind in version.edges.iter().filter_map(|edge| edge.kind) {
+    let record = &history.records[position];
+    let (x, y) = (layout.lane(record), layout.row(position));
+    let mut text = name(record);
+    for kind in record.edges().filter_map(|edge| edge.kind) {
         text += &format!(", kind {kind}");
     }
     let found = position == history.found;
@@ -162,8 +164,15 @@ fn node(picture: &mut Picture, layout: &Layout, history: &History, position: usi
 #[cfg(test)]
 mod tests {
     use super::*;
-    use reference::forge::{e, v};
     use viewer::Direction;
+
+    fn e(entity: u32, time: u64) -> Record {
+        Record::E { entity, time }
+    }
+
+    fn v(entity: u32, time: u64, kind: u8, previous: usize, source: usize) -> Record {
+        Record::V { entity, time, kind, previous, source }
+    }
 
     fn count(picture: &str, element: &str) -> usize {
         picture.matches(element).count()
@@ -171,8 +180,8 @@ mod tests {
 
     #[test]
     fn every_version_and_edge_is_drawn_once() {
-        let records = [e(1, 10), e(2, 20), v(2, 30, 7, 1, 0)].concat();
-        let drawn = picture("a title", &History::decoded(Direction::Backward, &records).unwrap());
+        let records = vec![e(1, 10), e(2, 20), v(2, 30, 7, 1, 0)];
+        let drawn = picture("a title", &History::new(Direction::Backward, records));
         assert_eq!(count(&drawn, "<circle class='version'"), 2);
         assert_eq!(count(&drawn, "<circle class='found'"), 1);
         assert_eq!(count(&drawn, "<circle class='ring'"), 1);
@@ -186,14 +195,14 @@ mod tests {
     #[test]
     fn edges_between_any_lanes_are_drawn() {
         // no log has these edges; a commitment made for them has
-        let records = [e(9, 10), e(2, 20), v(9, 30, 7, 0, 0), v(2, 40, 7, 2, 1)].concat();
-        let drawn = picture("", &History::decoded(Direction::Backward, &records).unwrap());
+        let records = vec![e(9, 10), e(2, 20), v(9, 30, 7, 0, 0), v(2, 40, 7, 2, 1)];
+        let drawn = picture("", &History::new(Direction::Backward, records));
         assert_eq!(count(&drawn, "<path class='temporal'") + count(&drawn, "<path class='dependency'"), 4);
     }
 
     #[test]
     fn without_records_the_title_stands_alone() {
-        let drawn = picture("not yet", &History::decoded(Direction::Backward, &[]).unwrap());
+        let drawn = picture("not yet", &History::new(Direction::Backward, Vec::new()));
         assert_eq!((count(&drawn, "<text"), count(&drawn, "<circle")), (1, 0));
     }
 }

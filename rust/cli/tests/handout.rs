@@ -4,6 +4,7 @@ mod common;
 
 use common::*;
 use reference::graph::{incoming_digests, outgoing_digests, Graph};
+use reference::hex::{from_hex, to_hex};
 use reference::sample::log_k;
 use reference::sha256::sha256;
 
@@ -17,10 +18,6 @@ fn block(name: &str) -> Vec<&'static str> {
     lines
 }
 
-fn bytes(hex: &str) -> Vec<u8> {
-    (0..hex.len()).step_by(2).map(|place| u8::from_str_radix(&hex[place..place + 2], 16).expect("hex")).collect()
-}
-
 /// The bytes of a table, whose lines begin with their place.
 fn table(name: &str) -> Vec<u8> {
     let mut all = Vec::new();
@@ -28,13 +25,9 @@ fn table(name: &str) -> Vec<u8> {
         let words: Vec<&str> = line.split_whitespace().collect();
         assert_eq!(words[0], all.len().to_string(), "{line}");
         assert!(words.len() > 2, "{line} says nothing");
-        all.extend(bytes(words[1]));
+        all.extend(from_hex(words[1]));
     }
     all
-}
-
-fn hex(bytes: &[u8]) -> String {
-    bytes.iter().map(|byte| format!("{byte:02x}")).collect()
 }
 
 #[test]
@@ -53,11 +46,11 @@ fn the_digests() {
     let mut expected = Vec::new();
     for (name, digests) in [("incoming", incoming_digests(&versions)), ("outgoing", outgoing_digests(&versions))] {
         for (version, digest) in versions.iter().zip(digests) {
-            expected.push(format!("{name} {} {} {}", version.name.entity, version.name.time, hex(&digest)));
+            expected.push(format!("{name} {} {} {}", version.name.entity, version.name.time, to_hex(&digest)));
         }
     }
     assert_eq!(block("digests"), expected);
-    let line = |name: &str, version: &str| format!("{name} {version} {}", hex(&sha256(&table(name))));
+    let line = |name: &str, version: &str| format!("{name} {version} {}", to_hex(&sha256(&table(name))));
     assert!(expected.contains(&line("incoming", "2 30")));
     assert!(expected.contains(&line("outgoing", "1 10")));
 }
@@ -70,7 +63,7 @@ fn the_text_and_the_commands() {
     assert_eq!(run_on(text.as_bytes(), &["log", "-", "-o", &folder.path("k.log")]).good(), b"");
     assert_eq!(folder.read("k.log"), table("log"));
     let answer = folder.file("k.answer", &table("answer"));
-    assert_eq!(run(&["check", block("commitment")[0], "backward", "2", "35", &answer]).good(), b"found 2 at 30, 3 records\n");
+    assert_eq!(run(&["check", block("commitment")[0], "backward", "2", "35", &answer]).good(), b"accepted: 2 at 35, backward: found 2 at 30, 3 records\n");
 }
 
 #[test]

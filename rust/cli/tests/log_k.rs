@@ -58,6 +58,30 @@ const ASKED: [(&str, u8, u32, u64, usize, &str); 7] = [
     ("forward", 2, 0, 0, 65, "no entity\n"),
 ];
 
+/// What `check` says of a true answer.
+fn accepted(direction: &str, entity: u32, time: u64, verdict: &str) -> String {
+    let direction = if direction == "only" { "version only" } else { direction };
+    format!("accepted: {entity} at {time}, {direction}: {verdict}")
+}
+
+/// `ask` says what `commit`, `check` and `show` do.
+#[test]
+fn ask() {
+    let k = Logged::k();
+    for (name, _, entity, time, _, verdict) in ASKED {
+        let told = run_on(&k.log, &["ask", "-", name, &entity.to_string(), &time.to_string()]).good();
+        let told = String::from_utf8(told).unwrap();
+        let rest = told.strip_prefix(&format!("commitment {}\n{}", k.hex(), accepted(name, entity, time, verdict))).expect("commitment and verdict");
+        let versions = if verdict.contains("3 records") { 3 } else { 0 };
+        assert_eq!(rest.lines().count(), versions, "{told}");
+    }
+    let told = String::from_utf8(run_on(&k.log, &["ask", "-", "backward", "2", "35"]).good()).unwrap();
+    assert!(told.ends_with(BACKWARD.split_once('\n').unwrap().1), "{told}");
+    let refused = run_on(b"x", &["ask", "-", "backward", "2", "35"]);
+    assert_eq!((refused.status, refused.text()), (1, ""));
+    assert!(refused.err.contains("refused 3 at 0"), "{}", refused.err);
+}
+
 #[test]
 fn answer_and_check() {
     let folder = Folder::new("answer_and_check");
@@ -72,7 +96,7 @@ fn answer_and_check() {
         assert_eq!(folder.read("a"), answer);
         for word in [name, &digit] {
             let checked = run(&["check", &k.hex(), word, &entity_word, &time_word, &folder.path("a")]).good();
-            assert_eq!(checked, verdict.as_bytes());
+            assert_eq!(String::from_utf8(checked).unwrap(), accepted(name, entity, time, verdict));
         }
     }
 }
@@ -84,7 +108,7 @@ fn a_commitment_is_hex_or_raw_or_standard_input() {
     let answer = folder.file("answer", &k.answer(1, 2, 35));
     let line = format!("  {}\n", k.hex().to_uppercase());
     let check = |input: &[u8], word: &str| run_on(input, &["check", word, "backward", "2", "35", &answer]).good();
-    let expected = b"found 2 at 30, 3 records\n";
+    let expected = b"accepted: 2 at 35, backward: found 2 at 30, 3 records\n";
     assert_eq!(check(b"", &k.hex()), expected);
     assert_eq!(check(b"", &folder.file("raw", &k.commitment)), expected);
     assert_eq!(check(b"", &folder.file("hex", line.as_bytes())), expected);

@@ -3,19 +3,15 @@
 mod common;
 
 use std::fs;
-use std::os::unix::fs::PermissionsExt;
 use std::path::Path;
 use std::process::Command;
 
 use common::*;
 
-/// Marks a shell script, in which `answer` writes the true answer.
+/// Marks a shell script.
 fn mark(name: &str, script: &str, words: &[&str]) -> (Folder, Ran) {
     let folder = Folder::new(&format!("mark_{name}"));
-    let answer = format!("answer() {{ '{}' answer - \"$@\"; }}", env!("CARGO_BIN_EXE_bozhtagul"));
-    let host = folder.file("host", format!("#!/bin/sh\ncd \"$(dirname \"$0\")\"\n{answer}\n{script}\n").as_bytes());
-    fs::set_permissions(&host, fs::Permissions::from_mode(0o755)).unwrap();
-    let ran = run(&[&["mark", &host], words].concat());
+    let ran = run(&[&["mark", &folder.host("host", script)], words].concat());
     (folder, ran)
 }
 
@@ -29,10 +25,15 @@ fn participant() -> String {
     path.to_str().expect("UTF-8").to_string()
 }
 
+/// The seed that the heading has.
+fn seed(ran: &Ran) -> &str {
+    ran.text().lines().next().and_then(|line| line.strip_prefix("seed ")).expect("a seed")
+}
+
 /// The table's lines as words, without the seconds.
 fn table(ran: &Ran) -> Vec<Vec<String>> {
     let words = |line: &str| line.split_whitespace().map(str::to_string).collect::<Vec<_>>();
-    let mut lines: Vec<Vec<String>> = ran.text().lines().skip(1).take(9).map(words).collect();
+    let mut lines: Vec<Vec<String>> = ran.text().lines().skip(2).take(9).map(words).collect();
     lines.iter_mut().for_each(|line| drop(line.remove(4)));
     lines
 }
@@ -78,16 +79,58 @@ fn its_answers_on_log_k_are_the_proved_ones() {
 }
 
 #[test]
-fn false_answers_are_counted_by_row_and_the_log_is_kept() {
+fn false_answers_are_counted_by_row() {
     let script = "case $1 in 0) answer \"$@\" ;; 1) answer \"$@\"; printf x ;; *) printf x ;; esac";
-    let kept = Folder::new("mark_kept");
-    let (_, ran) = mark("bad", script, &["--keep", &kept.path("log")]);
+    let (_, ran) = mark("bad", script, &[]);
     assert_eq!((ran.status, all(&ran).as_str()), (1, "all 96 32 0 32 by row 16, 32 by row 18"));
+    let said: Vec<&str> = ran.text().lines().skip(11).collect();
+    let [refused, difference] = said[..] else { panic!("{said:?}") };
+    assert!(refused.starts_with("first not accepted: ") && refused.contains(", backward, log of size 1: refused 18 at "), "{refused}");
+    assert!(refused.ends_with(": bytes after the end"), "{refused}");
+    assert!(difference.starts_with("first difference from the true answer: it goes on at byte "), "{difference}");
+}
+
+/// What is kept is enough to ask and to check again.
+#[test]
+fn the_first_answer_that_is_not_accepted_is_kept() {
+    let (folder, ran) = mark("keep", "answer \"$@\"; printf x", &["--keep", &Folder::new("mark_kept").path("a/b")]);
+    let kept = |name: &str| folder.path(&format!("../mark_kept/a/b/{name}"));
+    let said = fs::read_to_string(kept("said")).unwrap();
+    assert!(said.starts_with("first not accepted: ") && ran.text().ends_with(&said), "{said}");
+    let question = fs::read_to_string(kept("question")).unwrap();
+    let question: Vec<&str> = question.split_whitespace().collect();
+    let commitment = run(&["commit", &kept("log")]).good();
+    let commitment = std::str::from_utf8(&commitment).unwrap().trim();
+    let checked = run(&[&["check", commitment], &question[..], &[&kept("answer")]].concat());
+    assert!(checked.status == 1 && said.contains(checked.text().trim()), "{said}");
+    let truth = run(&[&["answer", &kept("log")], &question[..]].concat()).good();
+    assert_eq!(fs::read(kept("answer")).unwrap(), [&truth[..], b"x"].concat());
+}
+
+#[test]
+fn without_an_answer_none_is_kept() {
+    let kept = Folder::new("mark_none_kept");
+    kept.file("answer", b"of an earlier mark");
+    let (_, ran) = mark("none", "exit 1", &["--keep", &kept.path("")]);
+    assert_eq!((ran.status, all(&ran).as_str()), (1, "all 96 0 96 none"));
+    assert!(kept.read("log").len() >= 13 && kept.read("question").starts_with(b"0 "));
+    assert!(!Path::new(&kept.path("answer")).exists());
+    let (_, ran) = mark("no_folder", "exit 1", &["--keep", &kept.path("log")]);
+    assert!(ran.status == 2 && ran.err.contains("mark_none_kept/log: "), "{ran:?}");
+}
+
+#[test]
+fn standard_error_is_shown_up_to_the_first_answer_that_is_not_accepted() {
+    let (_, ran) = mark("errors", "echo \"asked $1\" >&2; [ $1 != 2 ] || exit 1; answer \"$@\"", &[]);
+    assert_eq!((all(&ran).as_str(), ran.err.as_str()), ("all 96 64 32 none", "asked 0\nasked 1\nasked 2\n"));
+}
+
+#[test]
+fn the_first_difference_is_named() {
+    let (_, ran) = mark("different", "answer \"$@\" | sed '1s/^R..../R\\x02\\x00\\x00\\x00/'", &[]);
     let last = ran.text().lines().last().unwrap();
-    assert!(last.starts_with("first not accepted: ") && last.contains(", backward, log of size 1: refused 18 at "), "{last}");
-    assert!(last.ends_with(": bytes after the end"), "{last}");
-    let text = run(&["log", "--text", &kept.path("log")]).good();
-    assert!(text.starts_with(b"birth ") && text.ends_with(b"\n") && text.len() < 40, "one record");
+    let expected = "first difference from the true answer: byte 1: R, number of entities: 02000000 stands there, and the true answer has 00000001";
+    assert_eq!((ran.status, last), (1, expected));
 }
 
 #[test]
@@ -100,12 +143,32 @@ fn the_seed_settles_the_questions() {
     assert_ne!(one, asked("seed_c", "2"));
 }
 
+/// Answers recorded in one mark are of use for that seed alone.
+#[test]
+fn replayed_answers_are_accepted_only_with_the_seed_that_they_were_recorded_with() {
+    let recorded = Folder::new("mark_recorded");
+    let count = format!("n=$(ls '{0}' | grep -c .)", recorded.path("asked"));
+    fs::create_dir(recorded.path("asked")).unwrap();
+    let record = format!("{count}; answer \"$@\" | tee '{0}'/$n; : >'{1}'/$n", recorded.path(""), recorded.path("asked"));
+    let (_, ran) = mark("record", &record, &[]);
+    assert_eq!(all(&ran), "all 96 96 0 none");
+    let replay = format!("n=$(ls | grep -c '^asked'); : >asked$n; cat '{}'/$n", recorded.path(""));
+    let (_, again) = mark("replay", &replay, &["--seed", seed(&ran)]);
+    assert_eq!((seed(&again), all(&again).as_str()), (seed(&ran), "all 96 96 0 none"));
+    let (_, fresh) = mark("replay_fresh", &replay, &[]);
+    assert_ne!(seed(&fresh), seed(&ran));
+    // a log of one record may come again
+    let accepted: usize = table(&fresh).last().unwrap()[2].parse().unwrap();
+    assert!(accepted <= 24, "{}", fresh.text());
+}
+
 #[test]
 fn no_answer_is_not_a_refused_one() {
     for (name, what, words, said) in [
         ("late", "exec sleep 20", &["--limit", "3"][..], "not ended after 3 s"),
         ("status", "exit 3", &[], "ended with a status that is not 0"),
         ("endless", "exec cat /dev/zero", &[], "longer than any answer"),
+        ("drips", "while :; do printf x; sleep 0.05; done", &["--limit", "3"], "not ended after 3 s"),
     ] {
         let (_, ran) = mark(name, &first(what), words);
         assert_eq!((ran.status, all(&ran).as_str()), (1, "all 96 95 1 none"), "{name}");
@@ -113,11 +176,66 @@ fn no_answer_is_not_a_refused_one() {
     }
 }
 
+/// The program has ended, and what it left behind holds its output, for longer than a question may take.
+#[test]
+fn an_output_that_is_held_open_is_not_waited_for() {
+    let (folder, ran) = mark("held", &first("answer \"$@\"; sleep 60 2>&- & echo $! >left; exit 0"), &["--limit", "20"]);
+    let left = String::from_utf8(folder.read("left")).unwrap();
+    assert_eq!(run_with(Command::new("kill").arg(left.trim()), b"").status, 0, "it was there to the end");
+    assert_eq!((ran.status, all(&ran).as_str()), (0, "all 96 96 0 none"), "{}", ran.text());
+    let seconds: f64 = ran.text().lines().last().unwrap().split_whitespace().nth(4).unwrap().parse().unwrap();
+    assert!(seconds < 20.0, "{seconds}");
+}
+
+#[test]
+fn a_program_may_have_words() {
+    let folder = Folder::new("mark_words_of_its_own");
+    let host = folder.host("host.sh", "[ \"$1\" = 'a b' ] && shift && answer \"$@\"");
+    let ran = run(&["mark", "--seed", "5", "--", "sh", &host, "a b"]);
+    assert_eq!((all(&ran).as_str(), ran.status), ("all 96 96 0 none", 0), "{}", ran.err);
+}
+
+/// Runs `mark` in a folder.
+fn mark_in(folder: &Folder, words: &[&str]) -> Ran {
+    run_with(Command::new(env!("CARGO_BIN_EXE_bozhtagul")).arg("mark").args(words).current_dir(folder.path("")), b"")
+}
+
+#[test]
+fn a_file_here_has_to_be_named_as_one() {
+    let folder = Folder::new("mark_here");
+    folder.host("sh", "answer \"$@\"");
+    for words in [&["sh"][..], &["--", "sh"]] {
+        let ran = mark_in(&folder, words);
+        assert_eq!((ran.status, ran.text()), (2, ""));
+        assert!(ran.err.contains("sh: the file in this folder is ./sh;"), "{}", ran.err);
+    }
+    assert_eq!(all(&mark_in(&folder, &["./sh"])), "all 96 96 0 none");
+}
+
+#[test]
+fn a_file_that_is_no_program_has_a_hint() {
+    let folder = Folder::new("mark_no_program");
+    folder.file("plain", b"#!/bin/sh\n");
+    folder.host("bare", "");
+    folder.file("bare", b"print(1)\n");
+    folder.host("lost", "");
+    folder.file("lost", b"#!/no/such/interpreter\n");
+    for (name, said) in [
+        ("./plain", "./plain: Permission denied (os error 13): 'chmod +x ./plain' lets it be started; or start it by words, as in 'mark -- "),
+        ("./bare", "./bare: Exec format error (os error 8): its first line does not name its interpreter"),
+        ("./lost", "./lost: No such file or directory (os error 2): the file is there, but not the program that its first line names"),
+    ] {
+        let ran = mark_in(&folder, &[name]);
+        assert_eq!((ran.status, ran.text()), (2, ""));
+        assert!(ran.err.contains(said), "{}", ran.err);
+    }
+}
+
 #[test]
 fn a_program_that_cannot_be_started_is_an_error_of_use() {
     let ran = run(&["mark", "/no/such/host"]);
-    assert_eq!(ran.status, 2);
-    assert!(ran.err.contains("/no/such/host: No such file"), "{}", ran.err);
+    assert_eq!((ran.status, ran.text()), (2, ""));
+    assert!(ran.err.ends_with("/no/such/host: No such file or directory (os error 2)\n"), "{}", ran.err);
     for words in [["--seed", "x"], ["--limit", "-1"]] {
         let (_, ran) = mark("words", "answer", &words);
         assert_eq!((ran.status, ran.text()), (2, ""));

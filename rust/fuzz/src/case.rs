@@ -1,10 +1,11 @@
 //! A case: the calls that a seed and an index give.
 
+use calls::{Fields, Memory, Name};
 use reference::listing;
 use reference::random::{self, Random};
 use reference::{log, Question, WORK};
 
-use crate::call::{Call, Fields, Memory, Name, Pattern};
+use crate::call::{Call, Pattern};
 use crate::guard::{announce, Edge};
 use crate::lengths::any_length;
 use crate::tally::Tally;
@@ -18,7 +19,7 @@ pub struct Case {
 
 impl Case {
     /// Runs the case's calls and counts them; else says which one differs, and how.
-    pub fn run(self, library: impl Fn(&Call, Memory) -> Fields + Copy, tally: &mut Tally) -> Result<(), String> {
+    pub fn run(self, library: impl Fn(Name, &Question, Memory) -> Fields + Copy, tally: &mut Tally) -> Result<(), String> {
         let Case { seed, index } = self;
         announce(seed, index);
         let _named = NamedOnPanic(self);

@@ -1,6 +1,9 @@
 //! A call of the library beside the Rust version's: the result, and all memory that was lent.
 
-use crate::call::{plain_rust, Call, Fields, Memory};
+use calls::{plain_rust, Fields, Memory, Name};
+use reference::Question;
+
+use crate::call::Call;
 use crate::guard::{Area, Input};
 
 /// What a call leaves.
@@ -16,14 +19,14 @@ struct After {
 }
 
 /// What the library's call leaves, its memory beside forbidden pages.
-fn given(call: &Call, library: impl Fn(&Call, Memory) -> Fields) -> After {
+fn given(call: &Call, library: impl Fn(Name, &Question, Memory) -> Fields) -> After {
     let [commitment, input, work, out] = call.edges;
     let (commitment, input) = (Input::new(&call.commitment, commitment), Input::new(&call.input, input));
     let mut work = Area::new(&call.pattern.bytes(call.work), work);
     let mut out = Area::new(&call.pattern.bytes(call.out), out);
     let memory =
         Memory { commitment: commitment.bytes(), input: input.bytes(), work: work.bytes_mut(), out: out.bytes_mut() };
-    let fields = library(call, memory);
+    let fields = library(call.name, &call.question, memory);
     After {
         fields,
         commitment: commitment.bytes().to_vec(),
@@ -39,12 +42,12 @@ fn expected(call: &Call) -> After {
     let mut work = call.pattern.bytes(call.work);
     let mut out = call.pattern.bytes(call.out);
     let memory = Memory { commitment: &call.commitment, input: &call.input, work: &mut work, out: &mut out };
-    let fields = plain_rust(call, memory);
+    let fields = plain_rust(call.name, &call.question, memory);
     After { fields, commitment: call.commitment.clone(), input: call.input.clone(), work, out, rest_is_kept: true }
 }
 
 /// Runs a call both ways, and gives the result; else what differs.
-pub fn run(call: &Call, library: impl Fn(&Call, Memory) -> Fields) -> Result<Fields, String> {
+pub fn run(call: &Call, library: impl Fn(Name, &Question, Memory) -> Fields) -> Result<Fields, String> {
     let expected = expected(call);
     let given = given(call, library);
     match difference(&given, &expected) {
@@ -81,12 +84,12 @@ fn first_difference(given: &[u8], expected: &[u8]) -> Option<usize> {
 #[cfg(test)]
 mod tests {
     use super::*;
-    use crate::call::{proved, Name, Pattern, NAMES};
+    use crate::call::Pattern;
     use crate::guard::Edge;
+    use calls::{proved, NAMES};
     use reference::host::Host;
     use reference::log::write;
     use reference::sample::log_k;
-    use reference::Question;
 
     /// Each call on Log K, with more work area and output than it needs.
     fn calls() -> Vec<Call> {
@@ -112,10 +115,10 @@ mod tests {
     fn each_field_is_compared() {
         let mut fields = 0;
         for call in calls() {
-            for altered in 0..expected(&call).fields.len() {
-                let wrong = |call: &Call, memory: Memory| {
-                    let mut fields = proved(call, memory);
-                    fields[altered].1 ^= 1;
+            for altered in expected(&call).fields.names() {
+                let wrong = |name: Name, question: &Question, memory: Memory| {
+                    let mut fields = proved(name, question, memory);
+                    fields.set(altered, fields.get(altered) ^ 1);
                     fields
                 };
                 assert!(run(&call, wrong).unwrap_err().starts_with("the result is"));

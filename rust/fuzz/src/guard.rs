@@ -1,7 +1,7 @@
 //! Memory beside pages that may not be touched, so that a read or a write outside of what is lent is a fault; and a word of which case
 //! met the fault. This module is all of the package's unsafe code.
 
-use std::ffi::{c_int, c_void};
+use std::ffi::c_int;
 use std::io::Write;
 use std::sync::atomic::{AtomicU64, Ordering::Relaxed};
 
@@ -10,7 +10,7 @@ compile_error!("guard pages are made by Linux's mmap and mprotect");
 
 /// What is used of the C library, with Linux's numbers.
 mod libc {
-    use super::{c_int, c_void};
+    use std::ffi::{c_int, c_void};
 
     pub const READ: c_int = 1;
     pub const WRITE: c_int = 2;

@@ -15,4 +15,5 @@ pub mod guard;
 pub mod lengths;
 pub mod logs;
 pub mod options;
+pub mod run;
 pub mod tally;

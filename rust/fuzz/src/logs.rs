@@ -1,7 +1,7 @@
 //! Logs: sound ones of several shapes, then changed by records, fields and bytes.
 
 use reference::listing::{MOST_BYTES, MOST_LISTED};
-use reference::log::{read, write, Record};
+use reference::log::{self, read, write, Record};
 use reference::random::{self, near, Random};
 use reference::sample::{births, in_turn, log_k, one_source, two_entities};
 
@@ -50,11 +50,7 @@ pub fn sound(random: &mut Random) -> Vec<Record> {
 
 /// All entities and times raised alike, so that the greatest are the greatest there are.
 fn move_to_the_end(records: &mut [Record]) {
-    let born = records.iter().filter_map(|record| match *record {
-        Record::Birth { entity, .. } => Some(entity),
-        Record::Flow { .. } => None,
-    });
-    let entities = u32::MAX - born.max().unwrap_or(0);
+    let entities = u32::MAX - log::births(records).max().unwrap_or(0);
     let times = u64::MAX - records.last().map_or(0, Record::time);
     for record in records {
         match record {

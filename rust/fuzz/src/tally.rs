@@ -2,7 +2,9 @@
 
 use std::fmt;
 
-use crate::call::{field, Call, Fields, Name, NAMES};
+use calls::{Fields, Name, NAMES};
+
+use crate::call::Call;
 
 /// Rows are counted by call, 0 for a call that is not turned away; verdicts by direction, 0 for none.
 #[derive(Clone, Debug, Default)]
@@ -16,12 +18,12 @@ pub struct Tally {
 
 impl Tally {
     pub fn add(&mut self, call: &Call, fields: &Fields) {
-        self.rows[call.name as usize][field(fields, "number") as usize] += 1;
-        let verdict = field(fields, "verdict");
+        self.rows[call.name as usize][fields.get("number") as usize] += 1;
+        let verdict = fields.get("verdict");
         if verdict > 0 {
             self.verdicts[call.question.direction as usize][verdict as usize] += 1;
         }
-        self.with_records += u64::from(call.name == Name::Records && field(fields, "length") > 0);
+        self.with_records += u64::from(call.name == Name::Records && fields.get("length") > 0);
     }
 
     pub fn calls(&self, name: Name) -> u64 {

@@ -1,13 +1,14 @@
 //! A bounded number of cases: no case differs, and they reach every row, every verdict and every call.
 
-use fuzz::call::{proved, Call, Fields, Memory, Name, NAMES};
+use calls::{proved, Fields, Memory, Name, NAMES};
 use fuzz::case::Case;
 use fuzz::tally::Tally;
+use reference::Question;
 
 const SEED: u64 = 1;
 const CASES: u64 = 24_000;
 
-fn run(seed: u64, cases: u64, library: impl Fn(&Call, Memory) -> Fields + Copy) -> Result<Tally, String> {
+fn run(seed: u64, cases: u64, library: impl Fn(Name, &Question, Memory) -> Fields + Copy) -> Result<Tally, String> {
     let mut tally = Tally::default();
     for index in 0..cases {
         Case { seed, index }.run(library, &mut tally)?;
@@ -46,10 +47,10 @@ fn no_case_differs_and_all_is_reached() {
 }
 
 /// Leaves the last byte of the work area as it was.
-fn keeps_a_byte(call: &Call, memory: Memory) -> Fields {
+fn keeps_a_byte(name: Name, question: &Question, memory: Memory) -> Fields {
     let Memory { commitment, input, work, out } = memory;
     let last = work.last().copied();
-    let fields = proved(call, Memory { commitment, input, work: &mut *work, out });
+    let fields = proved(name, question, Memory { commitment, input, work: &mut *work, out });
     if let (Some(byte), Some(last)) = (work.last_mut(), last) {
         *byte = last;
     }
@@ -57,35 +58,33 @@ fn keeps_a_byte(call: &Call, memory: Memory) -> Fields {
 }
 
 /// Writes a byte of an output that is too short.
-fn writes_though_refused(call: &Call, memory: Memory) -> Fields {
+fn writes_though_refused(name: Name, question: &Question, memory: Memory) -> Fields {
     let Memory { commitment, input, work, out } = memory;
-    let fields = proved(call, Memory { commitment, input, work, out: &mut *out });
-    if let (Some(byte), ("number", 13)) = (out.first_mut(), fields[0]) {
+    let fields = proved(name, question, Memory { commitment, input, work, out: &mut *out });
+    if let (Some(byte), 13) = (out.first_mut(), fields.get("number")) {
         *byte ^= 1;
     }
     fields
 }
 
 /// Does not know row 22.
-fn takes_22_for_24(call: &Call, memory: Memory) -> Fields {
-    let mut fields = proved(call, memory);
-    if fields[0] == ("number", 22) {
-        fields[0].1 = 24;
+fn takes_22_for_24(name: Name, question: &Question, memory: Memory) -> Fields {
+    let mut fields = proved(name, question, memory);
+    if fields.get("number") == 22 {
+        fields.set("number", 24);
     }
     fields
 }
 
 /// Takes an even time for the next odd one.
-fn asks_for_another_time(call: &Call, memory: Memory) -> Fields {
-    let mut other = call.clone();
-    other.question.time |= 1;
-    proved(&other, memory)
+fn asks_for_another_time(name: Name, question: &Question, memory: Memory) -> Fields {
+    proved(name, &Question { time: question.time | 1, ..*question }, memory)
 }
 
 /// Wrong libraries, each nearly right: the same cases tell them from the proved one.
 #[test]
 fn wrong_libraries_are_told_apart() {
-    let wrong: [fn(&Call, Memory) -> Fields; 4] =
+    let wrong: [fn(Name, &Question, Memory) -> Fields; 4] =
         [keeps_a_byte, writes_though_refused, takes_22_for_24, asks_for_another_time];
     for (place, library) in wrong.into_iter().enumerate() {
         let difference = run(SEED, CASES, library).expect_err(&format!("wrong library {place} passes"));

@@ -6,9 +6,11 @@ use crate::fields::{digest_at, u32_at, u64_at};
 use crate::graph::{incoming_digests_by, outgoing_digests_by, Dependency, Name, Version};
 use crate::hash::{Hash, H};
 use crate::log::MOST_RECORDS;
+use crate::question::{Question, BACKWARD, FORWARD};
+use crate::refusal::{enough_work, refuse, Refusal};
 use crate::sha256::Digest;
+use crate::trace::{found_place, record_width, trace_letter, HEADER};
 use crate::tree::{Subtree, GROUP, LEAF, NODE, ROOT};
-use crate::{enough_work, refuse, Question, Refusal, BACKWARD, FORWARD};
 
 #[derive(Clone, Copy, Debug, PartialEq, Eq)]
 pub enum Verdict {
@@ -185,7 +187,7 @@ fn trace(hash: &mut impl Hash, direction: u8, leaf: &Leaf, cursor: &mut Cursor, 
             return refuse(22, starts[idle]);
         }
     }
-    let found = if direction == BACKWARD { count - 1 } else { 0 };
+    let found = found_place(direction, count);
     if versions[found].name != leaf.name {
         return refuse(23, starts[found]);
     }
@@ -204,8 +206,7 @@ fn trace(hash: &mut impl Hash, direction: u8, leaf: &Leaf, cursor: &mut Cursor, 
 /// The trace header by 15, 16, 15, 19, 12; gives the count.
 fn header(direction: u8, cursor: &mut Cursor, work: usize) -> Result<usize, Refusal> {
     let start = cursor.place;
-    let letter = if direction == BACKWARD { b'B' } else { b'F' };
-    let header = cursor.piece(|found| (found == letter).then_some(5))?;
+    let header = cursor.piece(|found| (found == trace_letter(direction)).then_some(HEADER))?;
     let count = u32_at(header, 1) as usize;
     if count == 0 || count > MOST_RECORDS {
         return refuse(19, start);
@@ -222,7 +223,7 @@ fn record(
     cursor: &mut Cursor,
 ) -> Result<TraceRecord, Refusal> {
     let start = cursor.place;
-    let bytes = cursor.piece(|letter| record_width(direction, own, letter))?;
+    let bytes = cursor.piece(|letter| record_width(letter).filter(|_| is_due(direction, own, letter)))?;
     let version = decode_record(bytes);
     let source = version.dependency.map(|edge| edge.source);
     if version.temporal.into_iter().chain(source).any(|position| position >= own) {
@@ -234,16 +235,13 @@ fn record(
     Ok(TraceRecord { start, version })
 }
 
-/// The width of a record by its letter, none if the letter is not due.
-fn record_width(direction: u8, own: usize, letter: u8) -> Option<usize> {
-    match (direction, letter) {
-        (BACKWARD, b'E') => Some(13),
-        (BACKWARD, b'V') => Some(22),
-        (FORWARD, b'S') if own == 0 => Some(13),
-        (FORWARD, b'T') if own > 0 => Some(17),
-        (FORWARD, b'D') if own > 0 => Some(18),
-        (FORWARD, b'V') if own > 0 => Some(22),
-        _ => None,
+/// Whether a record's letter is due at its position.
+fn is_due(direction: u8, own: usize, letter: u8) -> bool {
+    match letter {
+        b'E' => direction == BACKWARD,
+        b'V' => direction == BACKWARD || own > 0,
+        b'S' => direction == FORWARD && own == 0,
+        _ => direction == FORWARD && own > 0,
     }
 }
 

@@ -5,9 +5,10 @@ use std::collections::HashMap;
 use crate::check::check_by;
 use crate::hash::Keeping;
 use crate::host::Host;
-use crate::log::Record;
+use crate::log::{Record, MOST_RECORDS};
+use crate::question::Question;
+use crate::refusal::WORK;
 use crate::sha256::Digest;
-use crate::{Question, WORK};
 
 /// Two different strings of one hash.
 #[derive(Clone, Debug, PartialEq, Eq)]
@@ -29,7 +30,7 @@ pub fn building(hash: fn(&[u8]) -> Digest, records: &[Record]) -> (Digest, Vec<V
 pub fn checking(hash: fn(&[u8]) -> Digest, question: &Question, commitment: &Digest, answer: &[u8]) -> Vec<Vec<u8>> {
     let mut keeping = Keeping::new(hash);
     // the verdict is not asked for here
-    let _ = check_by(&mut keeping, question, commitment, answer, WORK * crate::log::MOST_RECORDS);
+    let _ = check_by(&mut keeping, question, commitment, answer, WORK * MOST_RECORDS);
     keeping.strings
 }
 

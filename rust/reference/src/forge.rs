@@ -1,9 +1,11 @@
 //! Strings, traces and answers written by hand, for tests: they need not be a log's.
 
+use crate::check::decode_record;
 use crate::graph::{incoming_digests, outgoing_digests, Name, Version};
+use crate::question::Question;
 use crate::sha256::{sha256, Digest};
+use crate::trace::{found_place, record_letter, record_width, trace_letter, HEADER};
 use crate::tree::{leaf_string, Subtree, GROUP, LEAF, NODE, ROOT};
-use crate::{Question, BACKWARD};
 
 /// A trace record: letter, entity, time, then the bytes of the rest.
 pub fn record(letter: u8, entity: u32, time: u64, kind: Option<u8>, positions: &[u32]) -> Vec<u8> {
@@ -46,28 +48,13 @@ pub fn trace_with_count(letter: u8, count: u32, records: &[Vec<u8>]) -> Vec<u8> 
     [&[letter][..], &count.to_be_bytes(), &records.concat()].concat()
 }
 
-/// The header's letter in a direction with a trace.
-pub fn trace_letter(direction: u8) -> u8 {
-    if direction == BACKWARD {
-        b'B'
-    } else {
-        b'F'
-    }
-}
-
 /// The records that show versions and their edges, whatever the positions.
 pub fn records_of(direction: u8, versions: &[Version]) -> Vec<Vec<u8>> {
     versions.iter().map(|version| record_of(direction, version)).collect()
 }
 
 fn record_of(direction: u8, version: &Version) -> Vec<u8> {
-    let letter = match (version.temporal, version.dependency) {
-        (None, None) if direction == BACKWARD => b'E',
-        (None, None) => b'S',
-        (Some(_), None) => b'T',
-        (None, Some(_)) => b'D',
-        (Some(_), Some(_)) => b'V',
-    };
+    let letter = record_letter(direction, version.temporal.is_some(), version.dependency.is_some());
     let source = version.dependency.map(|edge| edge.source);
     let positions: Vec<u32> = version.temporal.into_iter().chain(source).map(|position| position as u32).collect();
     record(letter, version.name.entity, version.name.time, version.dependency.map(|edge| edge.kind), &positions)
@@ -83,15 +70,6 @@ pub fn fits(versions: &[Version]) -> bool {
         version.temporal.is_none_or(|start| start < own)
             && version.dependency.is_none_or(|edge| edge.source < own)
     })
-}
-
-/// The place of the found version's record.
-pub fn found_place(direction: u8, versions: &[Version]) -> usize {
-    if direction == BACKWARD {
-        versions.len() - 1
-    } else {
-        0
-    }
 }
 
 /// A subtree's 48 bytes with any keys.
@@ -139,7 +117,7 @@ pub fn proof_of_leaf(question: &Question, l: Vec<u8>) -> Fitting {
 
 /// R, G and an L with the name and the path digests that a trace of any versions shows, if their positions fit.
 pub fn proof_of_found(question: &Question, versions: &[Version]) -> Fitting {
-    let found = found_place(question.direction, versions);
+    let found = found_place(question.direction, versions.len());
     let Name { entity, time } = versions[found].name;
     let (incoming, outgoing) = (incoming_digests(versions)[found], outgoing_digests(versions)[found]);
     proof_of_leaf(question, leaf(entity, time, &incoming, &outgoing))
@@ -204,22 +182,18 @@ pub fn pieces(answer: &[u8]) -> Pieces {
 }
 
 /// The width of a piece by its letter.
-pub fn width(letter: u8) -> Option<usize> {
+fn width(letter: u8) -> Option<usize> {
     Some(match letter {
         b'R' => ROOT,
         b'P' | b'N' => NODE,
         b'G' => GROUP,
         b'L' => LEAF,
-        b'B' | b'F' => 5,
-        b'E' | b'S' => 13,
-        b'T' => 17,
-        b'D' => 18,
-        b'V' => 22,
-        _ => return None,
+        b'B' | b'F' => HEADER,
+        _ => return record_width(letter),
     })
 }
 
 /// The versions that whole records show.
 pub fn versions_of(records: &[Vec<u8>]) -> Vec<Version> {
-    records.iter().map(|record| crate::check::decode_record(record)).collect()
+    records.iter().map(|record| decode_record(record)).collect()
 }

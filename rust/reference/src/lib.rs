@@ -16,41 +16,22 @@ pub mod fields;
 pub mod forge;
 pub mod graph;
 pub mod hash;
+pub mod hex;
 pub mod host;
 pub mod listing;
 pub mod log;
+mod question;
 pub mod random;
+mod refusal;
 pub mod sample;
 pub mod sha256;
+pub mod trace;
 pub mod tree;
 pub mod vectors;
 
-/// Bytes of work area for each record.
-pub const WORK: usize = 128;
-
-/// The directions of a question.
-pub const VERSION_ONLY: u8 = 0;
-pub const BACKWARD: u8 = 1;
-pub const FORWARD: u8 = 2;
-
-/// A row's number and the byte position it returns.
-#[derive(Clone, Copy, Debug, PartialEq, Eq)]
-pub struct Refusal {
-    pub number: u64,
-    pub position: u64,
-}
-
-pub(crate) fn refuse<T>(number: u64, position: usize) -> Result<T, Refusal> {
-    Err(Refusal { number, position: position as u64 })
-}
-
-/// A direction, an entity and a time.
-#[derive(Clone, Copy, Debug, PartialEq, Eq)]
-pub struct Question {
-    pub direction: u8,
-    pub entity: u32,
-    pub time: u64,
-}
+pub use question::{Question, BACKWARD, FORWARD, VERSION_ONLY};
+pub use refusal::{Refusal, WORK};
+use refusal::{enough_work, refuse};
 
 /// The result of a call that writes a fixed number of bytes.
 #[derive(Clone, Copy, Debug, Default, PartialEq, Eq)]
@@ -183,14 +164,6 @@ pub fn records(
         }
         _ => Part::default(),
     }
-}
-
-/// Row 12: work area below 128 bytes a record.
-pub(crate) fn enough_work(work: usize, records: usize) -> Result<(), Refusal> {
-    if work < WORK * records {
-        return refuse(12, 0);
-    }
-    Ok(())
 }
 
 /// Row 13: output too short for the result; else the result is the output's first bytes.

@@ -1,13 +1,14 @@
 //! Deterministic inputs for tests: sound logs, logs with one fault, questions,
 //! damaged answers, and forged commitments with answers that fit them.
 
-use crate::forge::{fits, found_place, records_of, trace_letter, trace_with_count};
+use crate::forge::{fits, records_of, trace_with_count};
 use crate::graph::{incoming_digests, outgoing_digests, Dependency, Name, Version};
-use crate::log::{write, Record, MOST_RECORDS};
 use crate::hash::H;
+use crate::log::{births, write, Record, MOST_RECORDS};
+use crate::question::{Question, BACKWARD, FORWARD};
 use crate::sha256::{sha256, Digest};
-use crate::tree::{Subtree, NODE};
-use crate::{Question, BACKWARD, FORWARD};
+use crate::trace::{found_place, trace_letter};
+use crate::tree::{leaf_string, Subtree, NODE};
 
 /// A generator of numbers (SplitMix64).
 #[derive(Clone)]
@@ -37,6 +38,16 @@ impl Random {
     /// An index of a list of `length` elements.
     pub fn index(&mut self, length: usize) -> usize {
         self.below(length as u64) as usize
+    }
+
+    /// Another index than that one, of a list of `length` elements, which is above 1.
+    pub fn other(&mut self, index: usize, length: usize) -> usize {
+        (index + 1 + self.index(length - 1)) % length
+    }
+
+    /// An element of a list.
+    pub fn pick<T: Copy>(&mut self, list: &[T]) -> T {
+        list[self.index(list.len())]
     }
 
     /// True once in `times`.
@@ -131,7 +142,7 @@ fn next_entity(random: &mut Random, last: Option<u32>, far: bool) -> Option<u32>
 /// A flow between two of the born entities; the first one feeds most if `busy`.
 fn flow(random: &mut Random, born: &[u32], busy: bool, time: u64) -> Record {
     let source = if busy && !random.once_in(4) { 0 } else { random.index(born.len()) };
-    let destination = (source + 1 + random.index(born.len() - 1)) % born.len();
+    let destination = random.other(source, born.len());
     let kind = if random.once_in(4) { 0 } else { random.byte() };
     Record::Flow { source: born[source], destination: born[destination], kind, time }
 }
@@ -187,13 +198,7 @@ pub fn log_with_fault(random: &mut Random, records: &[Record], number: u64) -> O
 
 /// A record for the place of `record` that meets one of the rows 5 to 9.
 fn faulty_record(random: &mut Random, before: &[Record], record: Record, number: u64) -> Option<Record> {
-    let born: Vec<u32> = before
-        .iter()
-        .filter_map(|record| match *record {
-            Record::Birth { entity, .. } => Some(entity),
-            Record::Flow { .. } => None,
-        })
-        .collect();
+    let born: Vec<u32> = births(before).collect();
     let time = record.time();
     let kind = random.byte();
     let any = random.number() as u32;
@@ -216,6 +221,17 @@ fn with_time(record: Record, time: u64) -> Record {
     match record {
         Record::Birth { entity, .. } => Record::Birth { entity, time },
         Record::Flow { source, destination, kind, .. } => Record::Flow { source, destination, kind, time },
+    }
+}
+
+/// A log's bytes cut, with one more, or with one bit or byte altered.
+pub fn damage_log(random: &mut Random, log: &mut Vec<u8>) {
+    let at = random.index(log.len());
+    match random.below(4) {
+        0 => log.truncate(at),
+        1 => log.push(1 + random.byte() % 3),
+        2 => log[at] ^= 1 << random.below(8),
+        _ => log[at] = random.byte(),
     }
 }
 
@@ -372,7 +388,7 @@ fn forged_group(random: &mut Random, question: &Question) -> Opening {
 fn forged_leaf(random: &mut Random, question: &Question) -> Opening {
     let direction = question.direction;
     let versions = forged_versions(random, direction);
-    let found = found_place(direction, &versions);
+    let found = found_place(direction, versions.len());
     let mut name = versions[found].name;
     let (mut incoming, mut outgoing) = (random.digest(), random.digest());
     if fits(&versions) && !random.once_in(16) {
@@ -382,7 +398,7 @@ fn forged_leaf(random: &mut Random, question: &Question) -> Opening {
     if random.once_in(16) {
         name.entity ^= 1;
     }
-    let string = crate::tree::leaf_string(name, &incoming, &outgoing).to_vec();
+    let string = leaf_string(name, &incoming, &outgoing).to_vec();
     let trace = if direction == 0 { Vec::new() } else { forged_trace(random, direction, &versions) };
     let key = forged_keys(random, question.time).0;
     Opening { known: Subtree::leaf(&mut H, key, &string), string, below: Vec::new(), trace }

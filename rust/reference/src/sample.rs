@@ -1,7 +1,7 @@
 //! Logs by hand, and every question about a log, for tests.
 
-use crate::log::Record;
-use crate::Question;
+use crate::log::{self, Record};
+use crate::question::Question;
 
 pub fn birth(entity: u32, time: u64) -> Record {
     Record::Birth { entity, time }
@@ -39,11 +39,7 @@ pub fn in_turn(count: usize) -> Vec<Record> {
 
 /// Every question that a log can tell apart: entities and times at, one before and one after those of the log, the least and the greatest.
 pub fn questions(records: &[Record]) -> Vec<Question> {
-    let births = records.iter().filter_map(|record| match record {
-        Record::Birth { entity, .. } => Some(u64::from(*entity)),
-        Record::Flow { .. } => None,
-    });
-    let entities = near(births, u64::from(u32::MAX));
+    let entities = near(log::births(records).map(u64::from), u64::from(u32::MAX));
     let times = near(records.iter().map(Record::time), u64::MAX);
     let mut questions = Vec::new();
     for &entity in &entities {

@@ -1,5 +1,7 @@
 //! NIST's SHA-256 vectors, the files of `vectors/`, to be run with any implementation.
 
+use crate::hex::from_hex;
+
 const SHORT: &str = include_str!("../vectors/SHA256ShortMsg.rsp");
 const LONG: &str = include_str!("../vectors/SHA256LongMsg.rsp");
 const MONTE_CARLO: &str = include_str!("../vectors/SHA256Monte.rsp");
@@ -18,17 +20,10 @@ fn values<'a>(text: &'a str, name: &'a str) -> impl Iterator<Item = &'a str> {
         .map(|(_, value)| value.trim())
 }
 
-fn unhex(text: &str) -> Vec<u8> {
-    text.as_bytes()
-        .chunks(2)
-        .map(|pair| u8::from_str_radix(std::str::from_utf8(pair).unwrap(), 16).unwrap())
-        .collect()
-}
-
 fn vectors(text: &str) -> impl Iterator<Item = Vector> + '_ {
     values(text, "Len").zip(values(text, "Msg")).zip(values(text, "MD")).map(|((bits, message), digest)| {
         let length = bits.parse::<usize>().unwrap() / 8;
-        Vector { message: unhex(message)[..length].to_vec(), digest: unhex(digest) }
+        Vector { message: from_hex(message)[..length].to_vec(), digest: from_hex(digest) }
     })
 }
 
@@ -40,8 +35,8 @@ pub fn messages() -> Vec<Vector> {
 /// The 100 values of the Monte Carlo test, each a chain of 1,000 digests from the one before: what the implementation gives, and
 /// what it should give.
 pub fn monte_carlo(hash: impl Fn(&[u8]) -> [u8; 32]) -> Vec<(Vec<u8>, Vec<u8>)> {
-    let mut seed = unhex(values(MONTE_CARLO, "Seed").next().unwrap());
-    let expected = values(MONTE_CARLO, "MD").map(unhex);
+    let mut seed = from_hex(values(MONTE_CARLO, "Seed").next().unwrap());
+    let expected = values(MONTE_CARLO, "MD").map(from_hex);
     expected
         .map(|digest| {
             let mut last = [seed.clone(), seed.clone(), seed.clone()];

@@ -4,6 +4,7 @@ mod common;
 
 use common::*;
 use reference::forge::{d, e, s, t, trace, v};
+use reference::hex::{from_hex, to_hex};
 use reference::{Outcome, Part, Question, Written};
 
 const COMMITMENT: &str = "afa480e13388337b3ec74fcea39db57dddd6320386af49166a8fbf0d6f4511e1";
@@ -12,7 +13,7 @@ const COMMITMENT: &str = "afa480e13388337b3ec74fcea39db57dddd6320386af49166a8fbf
 fn log_and_commitment() {
     assert_eq!(log_k().len(), 62);
     assert_eq!(reference::log(&log_k()), Written { number: 0, position: 0, length: 4 });
-    assert_eq!(hex(&commit(&log_k())), COMMITMENT);
+    assert_eq!(to_hex(&commit(&log_k())), COMMITMENT);
 }
 
 /// The letters of the opened strings.
@@ -43,7 +44,7 @@ fn found(q: Question, length: usize, path: &str, records: &[Vec<u8>], time: u64)
     };
     assert!(answer.ends_with(&tail));
     assert_eq!(letters(&answer), path);
-    let commitment = unhex(COMMITMENT);
+    let commitment = from_hex(COMMITMENT);
     assert_eq!(check(q, &commitment, &answer), accepted(3, time, records.len() as u64));
     let part = common::records(q, &commitment, &answer);
     let bytes = &answer[part.start as usize..(part.start + part.length) as usize];

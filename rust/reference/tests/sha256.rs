@@ -2,7 +2,7 @@
 
 mod common;
 
-use common::hex;
+use reference::hex::to_hex;
 use reference::random::Random;
 use reference::sha256::{sha256, Sha256, INITIAL, ROUND_CONSTANTS};
 use reference::vectors;
@@ -133,7 +133,7 @@ fn hash_writes_32_bytes_or_refuses() {
             assert_eq!((outcome.number, outcome.position), (13, 0));
         } else {
             assert_eq!((outcome.number, outcome.position), (0, 0));
-            assert_eq!(hex(&written), "ba7816bf8f01cfea414140de5dae2223b00361a396177a9cb410ff61f20015ad");
+            assert_eq!(to_hex(&written), "ba7816bf8f01cfea414140de5dae2223b00361a396177a9cb410ff61f20015ad");
         }
     }
 }

@@ -1,49 +1,73 @@
 //! Safe calls of the proved library.
 //!
-//! The calls here give what a caller needs of a result; those of `plain` give all of it.
+//! A recorder keeps a log and commits to it; a host, which nobody has to trust, answers questions about it; [`checked`] gives what an answer says if
+//! it is the true one, and else why it is refused. The calls here give what a caller needs of a result; those of [`plain`] give all of it, and
+//! take any number for a direction.
+//!
+//! No call takes memory from the heap: the caller lends it, as [`work_area`], [`work_for`] and [`most_answer`] say how much, and a call keeps
+//! nothing. Every call ends, whatever bytes it is given, and takes the stack that [`stack`] says.
+//!
+//! # From a log to records
+//!
+//! ```
+//! use viewer::{Direction, Question, Record, Verdict};
+//!
+//! fn main() -> Result<(), Box<dyn std::error::Error>> {
+//!     // the log: entities 1 and 2 are born at 10 and 20, then each feeds the other
+//!     let birth = |entity: u32, time: u64| [&[1][..], &entity.to_be_bytes(), &time.to_be_bytes()].concat();
+//!     let flow = |source: u32, destination: u32, kind: u8, time: u64| {
+//!         [&[2][..], &source.to_be_bytes(), &destination.to_be_bytes(), &[kind], &time.to_be_bytes()].concat()
+//!     };
+//!     let log = [birth(1, 10), birth(2, 20), flow(1, 2, 7, 30), flow(2, 1, 8, 40)].concat();
+//!
+//!     // the recorder publishes the commitment
+//!     let records = viewer::log(&log)? as usize;
+//!     let mut work = viewer::work_area(records);
+//!     let mut commitment = [0; viewer::DIGEST];
+//!     viewer::commitment(&log, &mut work, &mut commitment)?;
+//!
+//!     // the host answers: what led to the version of entity 2 that stood at time 35?
+//!     let question = Question { direction: Direction::Backward, entity: 2, time: 35 };
+//!     let mut answer = vec![0; viewer::most_answer(question.direction, records)];
+//!     let length = viewer::answer(&question, &log, &mut work, &mut answer)?;
+//!     answer.truncate(length as usize);
+//!
+//!     // the viewer has the commitment and the answer, and no log
+//!     let mut work = viewer::work_for(&answer);
+//!     let checked = viewer::checked(&question, &commitment, &answer, &mut work)?;
+//!     assert_eq!(checked.verdict, Verdict::Found { time: 30, count: 3 });
+//!     let shown: Vec<Record> = checked.records.collect();
+//!     assert_eq!(
+//!         shown,
+//!         [
+//!             Record::E { entity: 1, time: 10 },
+//!             Record::E { entity: 2, time: 20 },
+//!             Record::V { entity: 2, time: 30, kind: 7, previous: 1, source: 0 },
+//!         ]
+//!     );
+//!
+//!     // a changed answer is refused
+//!     answer[437] ^= 1;
+//!     let refusal = viewer::checked(&question, &commitment, &answer, &mut work).unwrap_err();
+//!     assert_eq!(refusal.to_string(), "refused 24 at 424: its path digest differs from L");
+//!     Ok(())
+//! }
+//! ```
 
-/// The calls as they are exported: every field of their results.
 pub mod plain;
+mod question;
+mod record;
+mod refusal;
+mod room;
+pub mod stack;
 
-/// A row of document 01's table: its number, and the byte position that it returns.
-#[derive(Clone, Copy, Debug, PartialEq, Eq)]
-pub struct Refusal {
-    pub number: u64,
-    pub position: u64,
-}
-
-/// Which way a question looks.
-#[derive(Clone, Copy, Debug, PartialEq, Eq)]
-pub enum Direction {
-    VersionOnly,
-    Backward,
-    Forward,
-    /// Any byte, as it is handed over; above 2 it is row 11.
-    Raw(u8),
-}
-
-impl Direction {
-    /// The direction as a question's first number.
-    pub fn number(self) -> u8 {
-        match self {
-            Direction::VersionOnly => 0,
-            Direction::Backward => 1,
-            Direction::Forward => 2,
-            Direction::Raw(number) => number,
-        }
-    }
-}
-
-/// Which version of the entity stood at the time, and what led to it or came of it.
-#[derive(Clone, Copy, Debug, PartialEq, Eq)]
-pub struct Question {
-    pub direction: Direction,
-    pub entity: u32,
-    pub time: u64,
-}
+pub use question::{Direction, Question, UnknownDirection, DIRECTIONS};
+pub use record::{Edge, Record, Records};
+pub use refusal::Refusal;
+pub use room::{most_answer, work_area, work_for, work_length, DIGEST, MOST_LISTING, MOST_RECORDS};
 
 /// What an accepted answer says. A found version has its time, and its trace the number of records (0 without a trace).
-#[derive(Clone, Copy, Debug, PartialEq, Eq)]
+#[derive(Clone, Copy, Debug, PartialEq, Eq, Hash)]
 pub enum Verdict {
     NoEntity,
     NotYet,
@@ -65,35 +89,47 @@ fn counted(written: plain::Written) -> Result<u64, Refusal> {
 }
 
 /// Writes the SHA-256 of a message to the first 32 bytes of `out`. A shorter `out` is row 13, and stays as it was.
+///
+/// Takes at most [`stack::HASH`] bytes of stack, 2 KiB, as measured.
 pub fn hash(message: &[u8], out: &mut [u8]) -> Result<(), Refusal> {
     accepted(plain::hash(message, out))
 }
 
 /// The number of records of a sound log; else the row of 1 to 9 that it meets.
+///
+/// Takes at most [`stack::LOG`] bytes of stack, 264 KiB, as measured.
 pub fn log(log: &[u8]) -> Result<u64, Refusal> {
     counted(plain::log(log))
 }
 
-/// Writes what the listing program prints for an input to the first bytes of `out`, and gives its length. A shorter `out` is row 13, and
-/// stays as it was.
+/// Writes what the listing program prints for an input to the first bytes of `out`, and gives its length, which is at most [`MOST_LISTING`]. A
+/// shorter `out` is row 13, and stays as it was.
+///
+/// Takes at most [`stack::LISTING`] bytes of stack, 136 KiB, as measured.
 pub fn listing(input: &[u8], out: &mut [u8]) -> Result<u64, Refusal> {
     counted(plain::listing(input, out))
 }
 
 /// Writes a log's commitment to the first 32 bytes of `out`; else the row of 1 to 9, 12 or 13 that the call meets, and `out` stays as it
-/// was. The work area takes 128 bytes a record (`work_area`), and is all zero afterwards.
+/// was. The work area takes 128 bytes a record ([`work_area`]), and is all zero afterwards.
+///
+/// Takes at most [`stack::COMMITMENT`] bytes of stack, 264 KiB, as measured.
 pub fn commitment(log: &[u8], work: &mut [u8], out: &mut [u8]) -> Result<(), Refusal> {
     accepted(plain::commitment(log, work, out))
 }
 
-/// Writes the answer to a question about a log to the first bytes of `out`, and gives its length; else the row of 1 to 9 or 11 to 13 that the
-/// call meets, and `out` stays as it was. The work area is as for `commitment`. An answer has at most 3,211 bytes and 22 a record.
+/// Writes the answer to a question about a log to the first bytes of `out`, and gives its length, which is at most [`most_answer`]; else the
+/// row of 1 to 9, 12 or 13 that the call meets, and `out` stays as it was. The work area is as for [`commitment`].
+///
+/// Takes at most [`stack::ANSWER`] bytes of stack, 264 KiB, as measured.
 pub fn answer(question: &Question, log: &[u8], work: &mut [u8], out: &mut [u8]) -> Result<u64, Refusal> {
     counted(plain::answer(question.direction.number(), question.entity, question.time, log, work, out))
 }
 
-/// Checks an answer against a commitment: the verdict, if the answer is accepted; else the row of 11, 12 and 14 to 24 that it meets. The
-/// work area takes 128 bytes a record of the trace (`work_for`), and is all zero afterwards.
+/// Checks an answer against a commitment: the verdict, if the answer is accepted; else the row of 12 and 14 to 24 that it meets. The
+/// work area takes 128 bytes a record of the trace ([`work_for`]), and is all zero afterwards.
+///
+/// Takes at most [`stack::CHECK`] bytes of stack, 3 KiB, as measured.
 pub fn check(question: &Question, commitment: &[u8], answer: &[u8], work: &mut [u8]) -> Result<Verdict, Refusal> {
     let checked = plain::check(question.direction.number(), question.entity, question.time, commitment, answer, work);
     match (checked.number, checked.verdict) {
@@ -106,21 +142,30 @@ pub fn check(question: &Question, commitment: &[u8], answer: &[u8], work: &mut [
 }
 
 /// The checked records as that part of the answer, without the trace header; empty if there are none or the check refuses. The work area
-/// is as for `check`.
+/// is as for [`check`].
+///
+/// Takes at most [`stack::RECORDS`] bytes of stack, 3 KiB, as measured.
 pub fn records<'a>(question: &Question, commitment: &[u8], answer: &'a [u8], work: &mut [u8]) -> &'a [u8] {
     let part = plain::records(question.direction.number(), question.entity, question.time, commitment, answer, work);
     &answer[part.start as usize..][..part.length as usize]
 }
 
-/// A work area for that many records.
-pub fn work_area(records: usize) -> Vec<u8> {
-    vec![0; 128 * records]
+/// What an accepted answer says, and its checked records: none without a trace.
+#[derive(Clone, Debug)]
+pub struct Checked<'a> {
+    pub verdict: Verdict,
+    pub records: Records<'a>,
 }
 
-/// A work area for the check of an answer: for as many records as an answer of its length has room for, and no more than a trace may have.
-/// A trace that claims more records than that is refused in any case, by row 12 or an earlier one.
-pub fn work_for(answer: &[u8]) -> Vec<u8> {
-    const LEAST_RECORD: usize = 13;
-    const MOST_RECORDS: usize = 65_535;
-    work_area((answer.len() / LEAST_RECORD).min(MOST_RECORDS))
+/// Checks an answer as [`check`] does, and gives the verdict and the checked records together. The verdict is what the exported check gives, and
+/// the records are where the exported call of that name says; so an answer with a trace is checked twice, which takes twice as long.
+///
+/// Takes at most the stack of [`check`] or of [`records`], 3 KiB, as measured.
+pub fn checked<'a>(question: &Question, commitment: &[u8], answer: &'a [u8], work: &mut [u8]) -> Result<Checked<'a>, Refusal> {
+    let verdict = check(question, commitment, answer, work)?;
+    let records = match verdict {
+        Verdict::Found { count, .. } if count > 0 => Records::new(records(question, commitment, answer, work), count as usize),
+        _ => Records::new(&[], 0),
+    };
+    Ok(Checked { verdict, records })
 }

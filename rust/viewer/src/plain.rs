@@ -39,62 +39,58 @@ pub struct Part {
     pub length: u64,
 }
 
-/// The exported functions.
-mod exported {
-    use super::{Checked, Outcome, Part, Written};
-
-    extern "C" {
-        pub fn bozhtagul_hash(message: *const u8, message_len: usize, out: *mut u8, out_len: usize) -> Outcome;
-        pub fn bozhtagul_log(log: *const u8, log_len: usize) -> Written;
-        pub fn bozhtagul_listing(input: *const u8, input_len: usize, out: *mut u8, out_len: usize) -> Written;
-        pub fn bozhtagul_commitment(
-            log: *const u8,
-            log_len: usize,
-            work: *mut u8,
-            work_len: usize,
-            out: *mut u8,
-            out_len: usize,
-        ) -> Outcome;
-        pub fn bozhtagul_check(
-            direction: u8,
-            entity: u32,
-            time: u64,
-            commitment: *const u8,
-            commitment_len: usize,
-            answer: *const u8,
-            answer_len: usize,
-            work: *mut u8,
-            work_len: usize,
-        ) -> Checked;
-        pub fn bozhtagul_records(
-            direction: u8,
-            entity: u32,
-            time: u64,
-            commitment: *const u8,
-            commitment_len: usize,
-            answer: *const u8,
-            answer_len: usize,
-            work: *mut u8,
-            work_len: usize,
-        ) -> Part;
-        pub fn bozhtagul_answer(
-            direction: u8,
-            entity: u32,
-            time: u64,
-            log: *const u8,
-            log_len: usize,
-            work: *mut u8,
-            work_len: usize,
-            out: *mut u8,
-            out_len: usize,
-        ) -> Written;
-    }
+// The exported functions.
+extern "C" {
+    fn bozhtagul_hash(message: *const u8, message_len: usize, out: *mut u8, out_len: usize) -> Outcome;
+    fn bozhtagul_log(log: *const u8, log_len: usize) -> Written;
+    fn bozhtagul_listing(input: *const u8, input_len: usize, out: *mut u8, out_len: usize) -> Written;
+    fn bozhtagul_commitment(
+        log: *const u8,
+        log_len: usize,
+        work: *mut u8,
+        work_len: usize,
+        out: *mut u8,
+        out_len: usize,
+    ) -> Outcome;
+    fn bozhtagul_check(
+        direction: u8,
+        entity: u32,
+        time: u64,
+        commitment: *const u8,
+        commitment_len: usize,
+        answer: *const u8,
+        answer_len: usize,
+        work: *mut u8,
+        work_len: usize,
+    ) -> Checked;
+    fn bozhtagul_records(
+        direction: u8,
+        entity: u32,
+        time: u64,
+        commitment: *const u8,
+        commitment_len: usize,
+        answer: *const u8,
+        answer_len: usize,
+        work: *mut u8,
+        work_len: usize,
+    ) -> Part;
+    fn bozhtagul_answer(
+        direction: u8,
+        entity: u32,
+        time: u64,
+        log: *const u8,
+        log_len: usize,
+        work: *mut u8,
+        work_len: usize,
+        out: *mut u8,
+        out_len: usize,
+    ) -> Written;
 }
 
 /// An exported function on numbers, then slices to read, then slices to write, each as its pointer and its length.
 macro_rules! lend {
     ($call:ident, [$($number:ident),*], [$($read:ident),*], [$($written:ident),*]) => {
-        unsafe { exported::$call($($number,)* $($read.as_ptr(), $read.len(),)* $($written.as_mut_ptr(), $written.len(),)*) }
+        unsafe { $call($($number,)* $($read.as_ptr(), $read.len(),)* $($written.as_mut_ptr(), $written.len(),)*) }
     };
 }
 

@@ -18,8 +18,8 @@ fn requirements(source: &str) -> Vec<&str> {
 
 /// The names of the exported calls.
 fn exported(source: &str) -> Vec<&str> {
-    let name = |line: &'_ str| line.split_once("extern \"C\" fn ").map(|(_, rest)| rest.split('(').next().unwrap_or(rest));
-    source.lines().filter_map(name).collect()
+    let declared = source.lines().filter_map(|line| line.split_once("extern \"C\" fn "));
+    declared.map(|(_, rest)| rest.split('(').next().unwrap_or(rest)).collect()
 }
 
 /// Those of the exported calls that a source does not call.

@@ -8,7 +8,7 @@ use reference::log::Record;
 use reference::random::{self, Random};
 use reference::sample::{births, in_turn, log_k, one_source, questions};
 use reference::Question;
-use viewer::{Direction, Verdict};
+use viewer::Verdict;
 
 const MOST: usize = 65_535;
 
@@ -84,15 +84,17 @@ fn answers_to_other_questions() {
     met.exactly(2, 100, &[0, 15, 16, 17, 18]);
 }
 
-/// A raw direction of 0 to 2 is the named one.
+/// A direction of 0 to 2 is one of the viewer's, and a plain number above is row 11.
 #[test]
-fn raw_directions() {
-    for direction in 0..3 {
-        let asked = Asked::new(&Host::new(&log_k()), ask(direction, 2, 35));
-        let raw = viewer::Question { direction: Direction::Raw(direction), ..typed(&asked.question) };
-        let check = |question| with_work(384, |work| viewer::check(question, &asked.commitment, &asked.defined, work));
-        assert!(check(&raw).is_ok());
-        assert_eq!(check(&raw), check(&typed(&asked.question)));
+fn every_number_as_a_direction() {
+    let asked = Asked::new(&Host::new(&log_k()), ask(1, 2, 35));
+    for direction in 0..=255 {
+        let plain = with_work(384, |work| viewer::plain::check(direction, 2, 35, &asked.commitment, &asked.defined, work));
+        let typed = typed(&Question { direction, ..asked.question });
+        let given = typed.and_then(|question| with_work(384, |work| viewer::check(&question, &asked.commitment, &asked.defined, work)));
+        let (number, position) = given.map_or_else(|refusal| (refusal.number, refusal.position), |_| (0, 0));
+        assert_eq!((plain.number, plain.position), (number, position));
+        assert_eq!((direction == 1, direction > 2), (number == 0, number == 11));
     }
 }
 

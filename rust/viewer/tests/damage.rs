@@ -5,10 +5,11 @@ mod common;
 
 use common::*;
 use reference::edit::{any_count, edit, edit_letter};
-use reference::forge::{records_of, trace_letter, trace_with_count};
+use reference::forge::{records_of, trace_with_count};
 use reference::host::Host;
 use reference::random::{self, Random};
 use reference::sample::log_k;
+use reference::trace::trace_letter;
 use reference::Question;
 
 /// Enough for the records that these answers claim, unless a change makes them claim more.

@@ -113,7 +113,7 @@ fn both_edges_from_one_start() {
 fn one_start_of_the_most_edges() {
     let star = |own: usize| Version {
         name: Name { entity: 7, time: 10 + own as u64 },
-        temporal: (own > 0 && own % 2 == 0).then_some(0),
+        temporal: (own > 0 && own.is_multiple_of(2)).then_some(0),
         dependency: (own > 0).then_some(Dependency { kind: 1, source: 0 }),
     };
     let versions: Vec<Version> = (0..MOST).map(star).collect();

@@ -84,13 +84,7 @@ fn any_log(random: &mut Random) -> Vec<u8> {
     }
     let mut log = random::sound_log(random, most);
     if random.once_in(2) {
-        let at = random.index(log.len());
-        match random.below(4) {
-            0 => log.truncate(at),
-            1 => log.push(1 + random.byte() % 3),
-            2 => log[at] ^= 1 << random.below(8),
-            _ => log[at] = random.byte(),
-        }
+        random::damage_log(random, &mut log);
     }
     log
 }

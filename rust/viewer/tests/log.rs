@@ -50,13 +50,7 @@ fn random_and_damaged_logs() {
     for _ in 0..30_000 {
         let mut log = random::sound_log(&mut random, 60);
         if !random.once_in(4) {
-            let at = random.index(log.len());
-            match random.below(4) {
-                0 => log.truncate(at),
-                1 => log.push(1 + random.byte() % 3),
-                2 => log[at] ^= 1 << random.below(8),
-                _ => log[at] = random.byte(),
-            }
+            random::damage_log(&mut random, &mut log);
         }
         met[read(&log).map_or_else(|refusal| refusal.number, |_| 0) as usize] += 1;
     }

@@ -4,6 +4,7 @@ mod common;
 
 use common::*;
 use reference::forge::{d, e, s, t, trace, v};
+use reference::hex::to_hex;
 use reference::log::{write, Record};
 use reference::sample::{birth, births, flow, log_k};
 use reference::Question;
@@ -17,7 +18,8 @@ fn case(log: &[Record], question: Question, length: usize, records: &[Vec<u8>], 
     let letter = if question.direction == 1 { b'B' } else { b'F' };
     assert!(records.is_empty() || answer.ends_with(&trace(letter, records)), "{question:?}");
     assert_eq!(check(&question, &logged.commitment, &answer, 128 * records.len()), Ok(verdict));
-    let part = with_work(128 * records.len(), |work| viewer::records(&typed(&question), &logged.commitment, &answer, work).to_vec());
+    let asked = typed(&question).expect("a known direction");
+    let part = with_work(128 * records.len(), |work| viewer::records(&asked, &logged.commitment, &answer, work).to_vec());
     assert_eq!(part, records.concat(), "{question:?}");
 }
 
@@ -31,7 +33,7 @@ fn its_62_bytes_and_its_commitment() {
     assert_eq!((k.log.len(), viewer::log(&k.log)), (62, Ok(4)));
     // as `crates/logk` proves it of the definitions
     let proved = "afa480e13388337b3ec74fcea39db57dddd6320386af49166a8fbf0d6f4511e1";
-    assert_eq!(k.commitment.map(|byte| format!("{byte:02x}")).concat(), proved);
+    assert_eq!(to_hex(&k.commitment), proved);
     assert_eq!(k.commitment, k.host.commitment());
 }
 

@@ -51,7 +51,7 @@ impl Case {
 
     fn pieces(&self) -> Vec<Vec<u8>> {
         let header = self.letter.map(|letter| trace_with_count(letter, self.claimed(), &[]));
-        [&self.strings[..], header.as_slice(), &self.records, &[self.extra.clone()]].concat()
+        [&self.strings[..], header.as_slice(), &self.records, std::slice::from_ref(&self.extra)].concat()
     }
 
     fn answer(&self) -> Vec<u8> {

@@ -4,5 +4,7 @@ use bench::case::proved;
 
 fn main() {
     let case = bench::instructions::given();
-    std::hint::black_box(proved(&case, &mut case.lent()));
+    let mut lent = case.lent();
+    proved(&case, &mut lent);
+    std::hint::black_box(lent.result);
 }

@@ -3,9 +3,12 @@
 
 use std::fs;
 use std::io::Write;
+use std::os::unix::fs::PermissionsExt;
 use std::path::PathBuf;
 use std::process::{Command, Stdio};
+use std::sync::{Mutex, MutexGuard, PoisonError};
 
+use reference::hex::to_hex;
 use reference::host::Host;
 use reference::log::{write, Record};
 use reference::sample::log_k;
@@ -31,6 +34,13 @@ impl Ran {
     }
 }
 
+/// Held while a file is written and while a program is started. A program that starts meanwhile has the file open for writing for a
+/// moment, and a file that is open for writing cannot be started.
+fn alone() -> MutexGuard<'static, ()> {
+    static ALONE: Mutex<()> = Mutex::new(());
+    ALONE.lock().unwrap_or_else(PoisonError::into_inner)
+}
+
 /// A new empty folder for a test.
 pub struct Folder(PathBuf);
 
@@ -48,8 +58,17 @@ impl Folder {
 
     pub fn file(&self, name: &str, bytes: &[u8]) -> String {
         let path = self.path(name);
+        let _alone = alone();
         fs::write(&path, bytes).expect("written");
         path
+    }
+
+    /// A shell script, in which `answer` writes the true answer. It runs in the folder.
+    pub fn host(&self, name: &str, script: &str) -> String {
+        let answer = format!("answer() {{ '{}' answer - \"$@\"; }}", env!("CARGO_BIN_EXE_bozhtagul"));
+        let host = self.file(name, format!("#!/bin/sh\ncd '{}'\n{answer}\n{script}\n", self.path("")).as_bytes());
+        fs::set_permissions(&host, fs::Permissions::from_mode(0o755)).expect("a program");
+        host
     }
 
     pub fn read(&self, name: &str) -> Vec<u8> {
@@ -60,7 +79,11 @@ impl Folder {
 /// Runs a program with standard input given.
 pub fn run_with(program: &mut Command, input: &[u8]) -> Ran {
     let program = program.stdin(Stdio::piped()).stdout(Stdio::piped()).stderr(Stdio::piped());
-    let mut child = program.spawn().expect("started");
+    let started = {
+        let _alone = alone();
+        program.spawn()
+    };
+    let mut child = started.expect("started");
     // a program that does not read its input may have ended before
     let _ = child.stdin.take().expect("piped").write_all(input);
     let output = child.wait_with_output().expect("ended");
@@ -95,7 +118,7 @@ impl Logged {
     }
 
     pub fn hex(&self) -> String {
-        self.commitment.iter().map(|byte| format!("{byte:02x}")).collect()
+        to_hex(&self.commitment)
     }
 
     pub fn answer(&self, direction: u8, entity: u32, time: u64) -> Vec<u8> {

@@ -8,7 +8,7 @@ use reference::random::{self, Random};
 use reference::sha256::sha256;
 use reference::{Question, BACKWARD, FORWARD};
 
-use super::Posed;
+use crate::answers::posed::Posed;
 use crate::logs;
 
 pub fn any(random: &mut Random) -> Posed {

@@ -1,6 +1,7 @@
 //! Questions with commitments and answers: honest and forged ones, then changed by pieces, by what they show and by bytes.
 
 mod bases;
+mod posed;
 mod strings;
 mod traces;
 
@@ -11,15 +12,7 @@ use reference::log::Record;
 use reference::random::{self, near, Random};
 use reference::Question;
 
-/// What a check is asked, its answer still in pieces.
-#[derive(Clone, Debug)]
-pub struct Posed {
-    pub question: Question,
-    pub commitment: Vec<u8>,
-    pub pieces: Pieces,
-    /// The answer to another question about the same log, if there is a log.
-    pub beside: Option<Pieces>,
-}
+use posed::Posed;
 
 /// What a check is asked.
 pub struct Asked {

@@ -4,7 +4,7 @@ use reference::fields::u64_at;
 use reference::random::{near, Random};
 use reference::sha256::sha256;
 
-use super::Posed;
+use crate::answers::posed::Posed;
 
 /// One or two strings altered; mostly the strings above and the commitment follow, so that the proof fits.
 pub fn edit(random: &mut Random, posed: &mut Posed) {
@@ -82,8 +82,8 @@ pub fn reorder(random: &mut Random, strings: &mut Vec<Vec<u8>>) {
 
 #[cfg(test)]
 mod tests {
-    use super::super::bases;
     use super::*;
+    use crate::answers::bases;
     use reference::check::check;
 
     /// The strings above follow: whatever a leaf holds, its proof fits, and the verdict gives the leaf's time.

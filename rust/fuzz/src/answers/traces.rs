@@ -1,12 +1,13 @@
 //! Changes of traces: of what the records show, and of their bytes.
 
 use reference::edit::{any_count, edit, edit_letter};
-use reference::forge::{records_of, trace_letter, trace_with_count, versions_of, width};
+use reference::forge::{records_of, trace_with_count, versions_of};
 use reference::graph::Version;
 use reference::random::Random;
+use reference::trace::{record_width, trace_letter};
 use reference::{BACKWARD, FORWARD};
 
-use super::Posed;
+use crate::answers::posed::Posed;
 
 /// One change of a trace that has records.
 pub fn edit_trace(random: &mut Random, posed: &mut Posed) {
@@ -71,5 +72,5 @@ fn letters_are_due(direction: u8, versions: &[Version]) -> bool {
 
 /// A change may have left a record without the width of its letter.
 fn is_whole(record: &[u8]) -> bool {
-    b"ESTDV".contains(&record[0]) && width(record[0]) == Some(record.len())
+    record_width(record[0]) == Some(record.len())
 }

@@ -1,17 +1,18 @@
 //! For the tests of the guard pages: runs cases with a library that also touches what it was not lent, and is to die of it.
 
-use fuzz::call::{proved, Call, Fields, Memory};
+use calls::{proved, Fields, Memory, Name};
 use fuzz::case::Case;
 use fuzz::guard::name_faults;
 use fuzz::tally::Tally;
+use reference::Question;
 
 fn main() {
     let wanted = std::env::args().nth(1).expect("what to touch");
     name_faults();
     let wanted = wanted.as_str();
-    let wrong = |call: &Call, memory: Memory| -> Fields {
+    let wrong = |name: Name, question: &Question, memory: Memory| -> Fields {
         touch(wanted, &memory);
-        proved(call, memory)
+        proved(name, question, memory)
     };
     for index in 0..1_000 {
         // a write beside the lent bytes, but in their page, is told by the comparison; a later case has the other edge there

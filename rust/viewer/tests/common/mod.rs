@@ -2,14 +2,15 @@
 #![allow(dead_code)]
 
 use reference::check::{self as rows, Accepted};
-use reference::forge::{pieces, versions_of, Pieces};
+use reference::forge::{self, pieces, versions_of, Pieces};
 use reference::graph::Version;
 use reference::host::Host;
 use reference::log::{write, Record};
 use reference::random::{self, Random};
 use reference::sha256::Digest;
 use reference::Question;
-use viewer::{Direction, Refusal, Verdict};
+use std::ops::Range;
+use viewer::{plain, Direction, Refusal, Verdict};
 
 pub type Checked = Result<Verdict, Refusal>;
 
@@ -17,15 +18,10 @@ pub fn ask(direction: u8, entity: u32, time: u64) -> Question {
     Question { direction, entity, time }
 }
 
-/// The question as the library's own type has it.
-pub fn typed(question: &Question) -> viewer::Question {
-    let direction = match question.direction {
-        0 => Direction::VersionOnly,
-        1 => Direction::Backward,
-        2 => Direction::Forward,
-        other => Direction::Raw(other),
-    };
-    viewer::Question { direction, entity: question.entity, time: question.time }
+/// The question as the library's own type has it; row 11 if it has no such value.
+pub fn typed(question: &Question) -> Result<viewer::Question, Refusal> {
+    let direction = Direction::try_from(question.direction)?;
+    Ok(viewer::Question { direction, entity: question.entity, time: question.time })
 }
 
 pub fn refused<T>(number: u64, position: usize) -> Result<T, Refusal> {
@@ -46,15 +42,51 @@ pub fn with_work<T>(length: usize, call: impl FnOnce(&mut [u8]) -> T) -> T {
 
 /// Checks an answer with a work area of that many bytes. Verdict, row and position, and the place of the records, are the Rust version's.
 pub fn check(question: &Question, commitment: &[u8], answer: &[u8], work: usize) -> Checked {
-    let asked = typed(question);
     let expected = rows::check(question, commitment, answer, work);
     let place = expected.as_ref().ok().and_then(|accepted| accepted.records.clone()).unwrap_or(0..0);
-    let given = with_work(work, |work| viewer::check(&asked, commitment, answer, work));
+    let given = match typed(question) {
+        Ok(asked) => check_typed(&asked, commitment, answer, work, place),
+        Err(_) => check_unknown(question, commitment, answer, work),
+    };
     assert_eq!(given, expected.map(verdict).map_err(refusal), "{question:?}");
-    let part = with_work(work, |work| viewer::records(&asked, commitment, answer, work));
-    let start = part.as_ptr() as usize - answer.as_ptr() as usize;
-    assert_eq!(start..start + part.len(), place, "{question:?}");
     given
+}
+
+/// The check, with the records at that place; the call that gives both gives the same.
+fn check_typed(asked: &viewer::Question, commitment: &[u8], answer: &[u8], work: usize, place: Range<usize>) -> Checked {
+    let given = with_work(work, |work| viewer::check(asked, commitment, answer, work));
+    let part = with_work(work, |work| viewer::records(asked, commitment, answer, work));
+    let start = part.as_ptr() as usize - answer.as_ptr() as usize;
+    assert_eq!(start..start + part.len(), place, "{asked:?}");
+    let both = with_work(work, |work| viewer::checked(asked, commitment, answer, work));
+    assert_eq!(both.as_ref().map(|both| both.verdict).map_err(|refusal| *refusal), given, "{asked:?}");
+    if let Ok(both) = both {
+        assert_eq!(both.records.as_bytes(), part, "{asked:?}");
+        assert_eq!(both.records.len(), both.records.clone().count(), "{asked:?}");
+        assert!(both.records.flat_map(encoded).eq(part.iter().copied()), "{asked:?}");
+    }
+    given
+}
+
+/// The bytes of a record.
+fn encoded(record: viewer::Record) -> Vec<u8> {
+    match record {
+        viewer::Record::E { entity, time } => forge::e(entity, time),
+        viewer::Record::S { entity, time } => forge::s(entity, time),
+        viewer::Record::T { entity, time, previous } => forge::t(entity, time, previous as u32),
+        viewer::Record::D { entity, time, kind, source } => forge::d(entity, time, kind, source as u32),
+        viewer::Record::V { entity, time, kind, previous, source } => forge::v(entity, time, kind, previous as u32, source as u32),
+    }
+}
+
+/// The check of a question whose direction only a plain number has: there are no records.
+fn check_unknown(question: &Question, commitment: &[u8], answer: &[u8], work: usize) -> Checked {
+    let Question { direction, entity, time } = *question;
+    let checked = with_work(work, |work| plain::check(direction, entity, time, commitment, answer, work));
+    assert_eq!((checked.verdict, checked.time, checked.count), (0, 0, 0), "{question:?}");
+    let part = with_work(work, |work| plain::records(direction, entity, time, commitment, answer, work));
+    assert_eq!((part.start, part.length), (0, 0), "{question:?}");
+    refused(checked.number, checked.position as usize)
 }
 
 fn verdict(accepted: Accepted) -> Verdict {
@@ -74,8 +106,11 @@ fn refusal(refusal: reference::Refusal) -> Refusal {
 pub fn answer(question: &Question, log: &[u8], work: usize, out: usize) -> (Result<u64, Refusal>, Vec<u8>) {
     let before: Vec<u8> = (0..out).map(|place| (7 * place + 3) as u8).collect();
     let (mut given, mut expected) = (before.clone(), before);
-    let result = with_work(work, |work| viewer::answer(&typed(question), log, work, &mut given));
     let Question { direction, entity, time } = *question;
+    let result = with_work(work, |work| match typed(question) {
+        Ok(asked) => viewer::answer(&asked, log, work, &mut given),
+        Err(_) => answer_unknown(question, log, work, &mut given),
+    });
     let written = reference::answer(direction, entity, time, log, &mut vec![0; work], &mut expected);
     match written.number {
         0 => assert_eq!(result, Ok(written.length)),
@@ -84,6 +119,13 @@ pub fn answer(question: &Question, log: &[u8], work: usize, out: usize) -> (Resu
     assert!(given == expected, "{question:?}: the output differs");
     given.truncate(written.length as usize);
     (result, given)
+}
+
+/// The answer to a question whose direction only a plain number has.
+fn answer_unknown(question: &Question, log: &[u8], work: &mut [u8], out: &mut [u8]) -> Result<u64, Refusal> {
+    let written = plain::answer(question.direction, question.entity, question.time, log, work, out);
+    assert_eq!(written.length, 0, "{question:?}");
+    refused(written.number, written.position as usize)
 }
 
 /// The proved library's commitment of a log.

@@ -1,0 +1,111 @@
+/* The exported calls of the proved library, libbozhtagul.a, for C. What they do is fixed by docs/01-scope.md, "document 01".
+ *
+ * A slice is a pointer and then its length in bytes. A pointer whose length is 0 is not followed, and may be null. What a call writes to, a
+ * work area or an output, may share no byte with anything else that it is lent. Nothing else is required of any argument: each call takes
+ * any bytes and any numbers, ends, takes no memory from the heap, and keeps nothing.
+ *
+ * A result's number is that of the row of document 01's table that turned the call away, with the row's byte position, or 0. Fields that do
+ * not apply are 0. After a refusal the output is as it was. The work area is all zero after every call.
+ *
+ * Measured, the calls on a log take at most 264 KiB of stack, the others 3 KiB. */
+
+#ifndef BOZHTAGUL_H
+#define BOZHTAGUL_H
+
+#include <stddef.h>
+#include <stdint.h>
+
+/* A question's direction. Any other number is row 11. */
+#define BOZHTAGUL_VERSION_ONLY 0
+#define BOZHTAGUL_BACKWARD 1
+#define BOZHTAGUL_FORWARD 2
+
+/* A verdict; 0 where the check refuses. */
+#define BOZHTAGUL_NO_ENTITY 1
+#define BOZHTAGUL_NOT_YET 2
+#define BOZHTAGUL_FOUND 3
+
+/* Bytes of a digest and of a commitment; bytes of work area for a record; the most records of a log and of a trace. */
+#define BOZHTAGUL_DIGEST 32
+#define BOZHTAGUL_WORK 128
+#define BOZHTAGUL_MOST_RECORDS 65535
+
+/* No listing has more bytes, and no answer about a log of so many records. */
+#define BOZHTAGUL_MOST_LISTING 65536
+#define BOZHTAGUL_MOST_ANSWER(records) (3211 + 22 * (size_t)(records))
+
+struct bozhtagul_outcome {
+    uint64_t number;
+    uint64_t position;
+};
+
+/* The length is that of the bytes written, or of the log in records. */
+struct bozhtagul_written {
+    uint64_t number;
+    uint64_t position;
+    uint64_t length;
+};
+
+/* A found version has its time, and its trace the count of records, 0 without a trace. */
+struct bozhtagul_checked {
+    uint64_t number;
+    uint64_t position;
+    uint64_t verdict;
+    uint64_t time;
+    uint64_t count;
+};
+
+/* A part of the answer. */
+struct bozhtagul_part {
+    uint64_t start;
+    uint64_t length;
+};
+
+_Static_assert(sizeof(size_t) == 8, "the library is built for 64 bits");
+_Static_assert(sizeof(struct bozhtagul_outcome) == 16, "two numbers of 8 bytes");
+_Static_assert(sizeof(struct bozhtagul_written) == 24, "three numbers of 8 bytes");
+_Static_assert(sizeof(struct bozhtagul_checked) == 40, "five numbers of 8 bytes");
+_Static_assert(sizeof(struct bozhtagul_part) == 16, "two numbers of 8 bytes");
+
+/* Writes the SHA-256 of a message to the first 32 bytes of the output. */
+struct bozhtagul_outcome bozhtagul_hash(
+    const uint8_t *message, size_t message_len,
+    uint8_t *out, size_t out_len);
+
+/* Reads a log; its length is its number of records. */
+struct bozhtagul_written bozhtagul_log(
+    const uint8_t *log, size_t log_len);
+
+/* Writes what the listing program prints for an input to the first bytes of the output. */
+struct bozhtagul_written bozhtagul_listing(
+    const uint8_t *input, size_t input_len,
+    uint8_t *out, size_t out_len);
+
+/* Writes a log's commitment to the first 32 bytes of the output. The work area takes 128 bytes a record. */
+struct bozhtagul_outcome bozhtagul_commitment(
+    const uint8_t *log, size_t log_len,
+    uint8_t *work, size_t work_len,
+    uint8_t *out, size_t out_len);
+
+/* Writes the answer to a question to the first bytes of the output. The work area takes 128 bytes a record. */
+struct bozhtagul_written bozhtagul_answer(
+    uint8_t direction, uint32_t entity, uint64_t time,
+    const uint8_t *log, size_t log_len,
+    uint8_t *work, size_t work_len,
+    uint8_t *out, size_t out_len);
+
+/* Checks an answer against a commitment. The work area takes 128 bytes for each record of the answer's trace. */
+struct bozhtagul_checked bozhtagul_check(
+    uint8_t direction, uint32_t entity, uint64_t time,
+    const uint8_t *commitment, size_t commitment_len,
+    const uint8_t *answer, size_t answer_len,
+    uint8_t *work, size_t work_len);
+
+/* Where the checked records of an answer stand, without the trace header: 0 and 0 if there are none or the check refuses. */
+struct bozhtagul_part bozhtagul_records(
+    uint8_t direction, uint32_t entity, uint64_t time,
+    const uint8_t *commitment, size_t commitment_len,
+    const uint8_t *answer, size_t answer_len,
+    uint8_t *work, size_t work_len);
+
+#endif

@@ -1,0 +1,93 @@
+//! Answers and digests as the handout prints them, and answers that cannot be read to their end.
+
+mod common;
+
+use common::*;
+
+const HANDOUT: &str = include_str!("../../../practical/HANDOUT.md");
+
+/// The lines of the handout's block with that name.
+fn block(name: &str) -> String {
+    let (_, text) = HANDOUT.split_once(&format!("```{name}\n")).expect("the block");
+    text.split_once("```").expect("its end").0.to_string()
+}
+
+fn explained(answer: &[u8]) -> Ran {
+    run_on(answer, &["explain", "-"])
+}
+
+#[test]
+fn a_backward_answer_is_the_table_of_the_handout() {
+    let text = explained(&Logged::k().answer(1, 2, 35)).good();
+    assert_eq!(String::from_utf8(text).unwrap(), block("answer"));
+}
+
+#[test]
+fn a_forward_trace_is_the_table_of_the_handout_further_on() {
+    let k = Logged::k();
+    let proof = k.answer(0, 2, 20).len();
+    let text = String::from_utf8(explained(&k.answer(2, 2, 20)).good()).unwrap();
+    let trace = text.lines().filter_map(|line| {
+        let (place, rest) = line.trim_start().split_once(' ')?;
+        Some(format!("{:>4} {rest}\n", place.parse::<usize>().ok()?.checked_sub(proof)?))
+    });
+    assert_eq!(trace.collect::<String>(), block("forward"));
+}
+
+#[test]
+fn answers_that_end_early_are_read() {
+    let k = Logged::k();
+    for (question, strings) in [((0, 3, 35), "R"), ((1, 2, 19), "RPG"), ((0, 2, 35), "RPGNL")] {
+        let text = String::from_utf8(explained(&k.answer(question.0, question.1, question.2)).good()).unwrap();
+        let letters: String = text.lines().filter_map(|line| line.split_whitespace().nth(2).filter(|word| strings.contains(*word))).collect();
+        assert_eq!(letters, strings);
+    }
+}
+
+#[test]
+fn what_cannot_be_read_is_said_last() {
+    let good = Logged::k().answer(1, 2, 35);
+    let changed = |place: usize, byte: u8| {
+        let mut answer = good.clone();
+        answer[place] = byte;
+        answer
+    };
+    for (answer, lines, said) in [
+        (good[..0].to_vec(), 0, "byte 0: the answer ends, and R is due"),
+        (changed(65, b'N'), 7, "byte 65: 4e is not a letter due, which is P or G"),
+        (good[..70].to_vec(), 8, "byte 66: the answer ends inside P: left: least key, of which 4 of 8 bytes are there"),
+        (good[..316].to_vec(), 26, "byte 316: the answer ends, and N or L is due"),
+        (changed(397, 9), 45, "byte 446: the answer ends, and E or V is due"),
+        (changed(397, 2), 39, "byte 424: 22 bytes after the end"),
+        (changed(411, b'S'), 36, "byte 411: 53 is not a letter due, which is E or V"),
+        ([&good[..], b"xy"].concat(), 45, "byte 446: 2 bytes after the end"),
+    ] {
+        let ran = explained(&answer);
+        assert_eq!((ran.status, ran.err.as_str()), (1, ""), "{said}");
+        let all: Vec<&str> = ran.text().lines().collect();
+        assert_eq!((all.len() - 1, *all.last().unwrap()), (lines, said));
+    }
+}
+
+#[test]
+fn a_position_that_no_earlier_record_has_is_said() {
+    let mut answer = Logged::k().answer(1, 2, 35);
+    answer[441] = 2;
+    let text = String::from_utf8(explained(&answer).good()).unwrap();
+    assert!(text.contains(" 438  00000002          position of the previous version, which no earlier record has\n"), "{text}");
+}
+
+#[test]
+fn digests_are_those_of_the_handout() {
+    let text = String::from_utf8(run_on(&Logged::k().log, &["digests", "-"]).good()).unwrap();
+    let (origin, digests) = text.split_once('\n').unwrap();
+    assert!(origin.starts_with("# ") && origin.contains("independent Rust version"), "{origin}");
+    assert_eq!(digests, block("digests"));
+}
+
+#[test]
+fn a_log_that_is_not_sound_has_no_digests() {
+    let ran = run_on(&Logged::k().log[..61], &["digests", "-"]);
+    assert_eq!((ran.status, ran.text()), (1, ""));
+    assert!(ran.err.contains("standard input: refused 4 at 44: record cut short"), "{}", ran.err);
+}

@@ -1,0 +1,209 @@
+//! What the documents say of the repository is so: what they name is there, what they quote stands word for word in the document that it is
+//! quoted from, their links lead somewhere, and their tables are whole.
+
+mod markdown;
+mod names;
+mod quotations;
+mod repository;
+
+use std::path::Path;
+
+use markdown::{broken_tables, links, passages, Passage};
+use names::{names, Checked};
+use quotations::{plain, quotations, stands_in, unquoted_sentences};
+use repository::Repository;
+
+const PROMISES: &str = "docs/PROMISES.md";
+const SCOPE: &str = "docs/01-scope.md";
+const REQUESTS: &str = "docs/02-change-requests.md";
+
+/// What stands at the root and is no folder of a build.
+const PARTS: [&str; 13] =
+    ["README.md", "LICENSE", "test", "bozhtagul", "release", "crates.txt", "crates", "include", "rust", "docs", "bench", "fuzz", "practical"];
+
+/// Code in the promises that names nothing: forms of names, and words of the language.
+const NO_NAMES: [&str; 10] = [
+    "Module.name",
+    "crate::function",
+    "package/tests/file",
+    "test",
+    "must-fail/",
+    "requires",
+    "&mut",
+    "const",
+    "extern \"C\"",
+    "now constants ≡ K",
+];
+
+fn repository() -> Repository {
+    Repository::read(&Path::new(env!("CARGO_MANIFEST_DIR")).join("../.."), &PARTS)
+}
+
+/// The paths of all documents.
+fn documents(repository: &Repository) -> Vec<&str> {
+    let all = ["README.md", "docs", "practical"].into_iter().flat_map(|part| repository.below(part));
+    all.filter(|path| path.ends_with(".md")).collect()
+}
+
+#[test]
+fn the_promises_name_what_is_there() {
+    let repository = repository();
+    let found = names(&repository, &passages(repository.text(PROMISES)), Checked::All, &NO_NAMES);
+    assert!(found.wrong.is_empty(), "{PROMISES}:\n{}", found.wrong.join("\n"));
+    assert!(found.names > 1_000, "{} names", found.names);
+    for word in NO_NAMES {
+        assert!(repository.text(PROMISES).contains(&format!("`{word}`")), "{word} stands in the promises no more");
+    }
+}
+
+/// The text that a quotation is taken from: a document that is named before it in its cell, else under a request's heading the request, else
+/// document 01.
+fn source(repository: &Repository, heading: &str, before: &str) -> String {
+    let named = ["README.md", "docs/DECISIONS.md"].into_iter().find(|path| before.contains(path.trim_start_matches("docs/")));
+    let request = heading.split_once(':').map_or("", |(number, _)| number);
+    let requests = passages(repository.text(REQUESTS)).into_iter().map(|passage| plain(&passage.cells[0]));
+    match (named, requests.into_iter().find(|text| !request.is_empty() && text.starts_with(&format!("{request}.")))) {
+        (Some(path), _) => repository.text(path).to_string(),
+        (None, Some(text)) => text,
+        (None, None) => repository.text(SCOPE).to_string(),
+    }
+}
+
+/// The heading under which the users speak, whose words stand in no document here.
+const OWN_WORDS: &str = "The three demands";
+
+/// What is quoted in a passage: how much, and what is wrong with it.
+fn quoted(repository: &Repository, passage: &Passage) -> (usize, Vec<String>) {
+    let (mut count, mut wrong) = (0, Vec::new());
+    for cell in passage.cells.iter().filter(|_| passage.heading != OWN_WORDS) {
+        let Some(quotations) = quotations(cell) else {
+            wrong.push(format!("line {}: a quotation does not end: {cell}", passage.line));
+            continue;
+        };
+        for quotation in quotations {
+            count += 1;
+            if !stands_in(quotation.text, &source(repository, &passage.heading, &cell[..quotation.start])) {
+                wrong.push(format!("line {}: not in its document: {}", passage.line, quotation.text));
+            }
+        }
+    }
+    (count, wrong)
+}
+
+#[test]
+fn the_promises_quote_word_for_word() {
+    let repository = repository();
+    let (counts, wrong): (Vec<usize>, Vec<Vec<String>>) =
+        passages(repository.text(PROMISES)).iter().map(|passage| quoted(&repository, passage)).unzip();
+    let wrong = wrong.concat();
+    assert!(wrong.is_empty(), "{PROMISES}:\n{}", wrong.join("\n"));
+    let count: usize = counts.iter().sum();
+    assert!(count > 100, "{count} quotations");
+}
+
+/// Sentences of document 01 that define and promise nothing.
+const NO_PROMISES: [&str; 2] = ["We read the code and also the proofs.", "Marked :"];
+
+#[test]
+fn the_promises_quote_every_sentence_of_document_01() {
+    let repository = repository();
+    let promises = passages(repository.text(PROMISES));
+    let cells = promises.iter().flat_map(|passage| &passage.cells);
+    let quoted: Vec<String> = cells.filter_map(|cell| quotations(cell)).flatten().map(|quotation| quotation.text.to_string()).collect();
+    let document = passages(repository.text(SCOPE)).into_iter().filter(|passage| passage.cells.len() == 1);
+    let paragraphs: Vec<String> = document.flat_map(|passage| passage.cells).collect();
+    assert_eq!(unquoted_sentences(&paragraphs, &quoted), NO_PROMISES);
+}
+
+#[test]
+fn an_altered_quotation_is_reported() {
+    let repository = Repository::of(&[
+        (SCOPE, "# Log\n\nTimes rise. At most 7 records.\n"),
+        (REQUESTS, "**A3. Constants.** The table goes.\n\n**A10. Order.** Take it out.\n"),
+        ("README.md", "## What is promised\n"),
+    ]);
+    let wrong = |text: &str| passages(text).iter().flat_map(|passage| quoted(&repository, passage).1).collect::<Vec<_>>();
+    let row = |heading: &str, cell: &str| wrong(&format!("## {heading}\n\n| sentence |\n|---|\n| {cell} |\n"));
+    for (heading, cell) in [
+        ("Log", "\"Times rise.\" and \"At most 7 records.\""),
+        ("A3: constants", "\"The table goes.\""),
+        ("A10: order", "\"Take it out.\""),
+        ("Log", "README.md, \"What is promised\""),
+        (OWN_WORDS, "\"Refused first\""),
+    ] {
+        assert_eq!(row(heading, cell), Vec::<String>::new(), "{cell}");
+    }
+    for (heading, cell) in [
+        ("Log", "\"Times fall.\""),
+        ("Log", "\"The table goes.\""),
+        ("A3: constants", "\"Take it out.\""),
+        ("A3: constants", "\"Times rise.\""),
+        ("Log", "README.md, \"Times rise.\""),
+        ("Log", "\"Times rise."),
+    ] {
+        assert_eq!(row(heading, cell).len(), 1, "{cell}");
+    }
+}
+
+#[test]
+fn tables_are_whole() {
+    let repository = repository();
+    for path in documents(&repository) {
+        let broken = broken_tables(repository.text(path));
+        assert!(broken.is_empty(), "{path}:\n{}", broken.join("\n"));
+    }
+}
+
+/// What stands in `docs/changes` was so when a request landed, so that names may have gone since; its links have to lead somewhere.
+#[test]
+fn the_documents_name_what_is_there() {
+    let repository = repository();
+    let (mut count, mut wrong) = (0, Vec::new());
+    for path in documents(&repository).into_iter().filter(|path| *path != PROMISES && !path.starts_with("docs/changes")) {
+        let found = names(&repository, &passages(repository.text(path)), Checked::WithPlace, &NO_NAMES);
+        count += found.names;
+        wrong.extend(found.wrong.iter().map(|wrong| format!("{path}: {wrong}")));
+    }
+    assert!(wrong.is_empty(), "{}", wrong.join("\n"));
+    assert!(count > 150, "{count} names");
+}
+
+/// The anchor of a heading: small letters, hyphens for spaces, and no other marks.
+fn anchor(heading: &str) -> String {
+    let letters = heading.trim_matches(['#', ' ']).to_lowercase().replace(' ', "-");
+    letters.chars().filter(|letter| letter.is_alphanumeric() || *letter == '-').collect()
+}
+
+/// The links of a document that lead nowhere.
+fn lost_links(repository: &Repository, path: &str) -> Vec<String> {
+    let folder = path.rsplit_once('/').map_or("", |(folder, _)| folder);
+    let lost = |link: &str| {
+        let (file, place) = link.split_once('#').unwrap_or((link, ""));
+        let target = match (file, file.strip_prefix("../")) {
+            ("", _) => path.to_string(),
+            (_, Some(above)) => above.to_string(),
+            _ => format!("{folder}/{file}").trim_matches('/').to_string(),
+        };
+        let is_there = repository.below(&target).next().is_some();
+        let has_place = |text: &str| text.lines().any(|line| line.starts_with('#') && anchor(line) == place);
+        !is_there || !(place.is_empty() || has_place(repository.text(&target)))
+    };
+    links(repository.text(path)).into_iter().filter(|link| lost(link)).map(|link| format!("{path}: {link}")).collect()
+}
+
+#[test]
+fn links_lead_somewhere() {
+    let repository = repository();
+    let lost: Vec<String> = documents(&repository).into_iter().flat_map(|path| lost_links(&repository, path)).collect();
+    assert!(lost.is_empty(), "{}", lost.join("\n"));
+}
+
+#[test]
+fn a_lost_link_is_reported() {
+    let text = "[a](B.md) [b](#one-two) [c](B.md#it) [d](changes/) [e](../README.md)\n\n## One: two\n";
+    let files = |text| Repository::of(&[("docs/A.md", text), ("docs/B.md", "# It\n"), ("docs/changes/C.md", ""), ("README.md", "")]);
+    assert_eq!(lost_links(&files(text), "docs/A.md"), Vec::<String>::new());
+    for lost in ["[a](C.md)", "[a](#two)", "[a](B.md#one-two)", "[a](other/)", "[a](../B.md)"] {
+        assert_eq!(lost_links(&files(lost), "docs/A.md").len(), 1, "{lost}");
+    }
+}
