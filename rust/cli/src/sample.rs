@@ -7,7 +7,8 @@ use viewer::{Direction, Question};
 pub struct Sample {
     pub text: String,
     entities: Vec<u32>,
-    times: Vec<u64>,
+    /// Each version's entity and time.
+    versions: Vec<(u32, u64)>,
 }
 
 /// The numbers of a log: where entities and times begin, and how far apart they may lie.
@@ -32,30 +33,33 @@ impl Range {
 /// A log of that many records: two births, then a birth once in five, else a flow between two entities.
 pub fn log(random: &mut Random, records: usize) -> Sample {
     let range = Range::new(random, records);
-    let mut sample = Sample { text: String::new(), entities: Vec::new(), times: Vec::new() };
+    let mut sample = Sample { text: String::new(), entities: Vec::new(), versions: Vec::new() };
     let (mut entity, mut time) = (range.entity, range.time);
     for _ in 0..records {
-        sample.times.push(time);
-        sample.text += &if sample.entities.len() < 2 || random.below(5) == 0 {
-            sample.entities.push(entity as u32);
-            let text = format!("birth {entity} {time}\n");
+        let (version, text) = if sample.entities.len() < 2 || random.below(5) == 0 {
+            let born = entity as u32;
+            sample.entities.push(born);
             entity += 1 + random.below(range.entity_step);
-            text
+            (born, format!("birth {born} {time}\n"))
         } else {
             let source = random.pick(&sample.entities);
             let others: Vec<u32> = sample.entities.iter().copied().filter(|other| *other != source).collect();
-            format!("flow {source} {} {} {time}\n", random.pick(&others), random.below(256))
+            let destination = random.pick(&others);
+            (destination, format!("flow {source} {destination} {} {time}\n", random.below(256)))
         };
+        sample.versions.push((version, time));
+        sample.text += &text;
         time += 1 + random.below(range.time_step);
     }
     sample
 }
 
-/// A question: of an entity of the log, or once in eight of one near it; at a record's time, or just beside one.
+/// A question: at a version's time or just beside it, of its entity or as often of any; once in eight of an entity near that one.
 pub fn question(random: &mut Random, sample: &Sample, direction: Direction) -> Question {
-    let entity = random.pick(&sample.entities).saturating_add(u32::from(random.below(8) == 0));
-    let time = random.pick(&sample.times).saturating_add(random.below(3)).saturating_sub(1);
-    Question { direction, entity, time }
+    let (own, time) = random.pick(&sample.versions);
+    let entity = if random.below(2) == 0 { own } else { random.pick(&sample.entities) };
+    let entity = entity.saturating_add(u32::from(random.below(8) == 0));
+    Question { direction, entity, time: time.saturating_add(random.below(3)).saturating_sub(1) }
 }
 
 #[cfg(test)]
@@ -75,7 +79,7 @@ mod tests {
     fn numbers_come_from_both_halves_of_their_fields() {
         let logs: Vec<Sample> = (1..20).map(|seed| log(&mut Random::new(seed), 64)).collect();
         let entities: Vec<u32> = logs.iter().flat_map(|log| log.entities.clone()).collect();
-        let times: Vec<u64> = logs.iter().flat_map(|log| log.times.clone()).collect();
+        let times: Vec<u64> = logs.iter().flat_map(|log| log.versions.iter().map(|version| version.1)).collect();
         assert!(entities.contains(&0) && times.contains(&0));
         assert!(entities.iter().any(|entity| entity >> 31 == 1) && times.iter().any(|time| time >> 63 == 1));
     }
@@ -84,6 +88,21 @@ mod tests {
     fn a_seed_gives_one_log() {
         assert_eq!(log(&mut Random::new(7), 20).text, log(&mut Random::new(7), 20).text);
         assert_ne!(log(&mut Random::new(7), 20).text, log(&mut Random::new(8), 20).text);
+    }
+
+    /// Whoever takes a time for one before the version that stands at it, or after, has to lose marks also in a long log.
+    #[test]
+    fn a_version_is_asked_for_at_its_own_time_and_just_beside_it() {
+        let mut random = Random::new(1);
+        let sample = log(&mut random, 4096);
+        let mut met = [0; 3];
+        for _ in 0..300 {
+            let Question { entity, time, .. } = question(&mut random, &sample, Direction::VersionOnly);
+            for (times, beside) in met.iter_mut().zip([time.wrapping_add(1), time, time.wrapping_sub(1)]) {
+                *times += usize::from(sample.versions.contains(&(entity, beside)));
+            }
+        }
+        assert!(met.iter().all(|times| *times > 30), "{met:?}");
     }
 
     #[test]
