@@ -113,9 +113,13 @@ fn wait(child: &mut Child, end: Instant) -> Option<bool> {
 fn not_started(program: &str, reason: &io::Error) -> String {
     let words = format!("start it by words, as in 'mark -- python3 {program}'");
     let hint = match reason.kind() {
-        io::ErrorKind::NotFound if Path::new(program).is_file() => ": the file is there, but not the program that its first line names".to_string(),
+        io::ErrorKind::NotFound if Path::new(program).is_file() => {
+            ": the file is there, but not the program that its first line names".to_string()
+        }
         io::ErrorKind::PermissionDenied => format!(": 'chmod +x {program}' lets it be started; or {words}"),
-        _ if reason.raw_os_error() == Some(NO_PROGRAM) => format!(": its first line does not name its interpreter, as '#!/bin/sh' does; or {words}"),
+        _ if reason.raw_os_error() == Some(NO_PROGRAM) => {
+            format!(": its first line does not name its interpreter, as '#!/bin/sh' does; or {words}")
+        }
         _ => String::new(),
     };
     format!("{program}: {reason}{hint}")

@@ -43,7 +43,8 @@ fn a_folder_stands_for_the_programs_in_it() {
 #[test]
 fn all_have_the_same_questions() {
     let folder = Folder::new("class_same");
-    let hosts = ["one", "two"].map(|name| folder.host(name, &format!("tee log | cksum >>{name}.asked; echo \"$@\" >>{name}.asked; answer \"$@\" <log")));
+    let noting = |name: &str| format!("tee log | cksum >>{name}.asked; echo \"$@\" >>{name}.asked; answer \"$@\" <log");
+    let hosts = ["one", "two"].map(|name| folder.host(name, &noting(name)));
     let ran = run(&["mark", &hosts[0], &hosts[1]]);
     assert_eq!((ran.status, lines(&ran).1), (0, "2 of 2 have full marks"), "{}", ran.text());
     assert_eq!(folder.read("one.asked").iter().filter(|byte| **byte == b'\n').count(), 2 * 96);

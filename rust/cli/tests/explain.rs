@@ -39,7 +39,8 @@ fn answers_that_end_early_are_read() {
     let k = Logged::k();
     for (question, strings) in [((0, 3, 35), "R"), ((1, 2, 19), "RPG"), ((0, 2, 35), "RPGNL")] {
         let text = String::from_utf8(explained(&k.answer(question.0, question.1, question.2)).good()).unwrap();
-        let letters: String = text.lines().filter_map(|line| line.split_whitespace().nth(2).filter(|word| strings.contains(*word))).collect();
+        let meanings = text.lines().filter_map(|line| line.split_whitespace().nth(2));
+        let letters: String = meanings.filter(|meaning| meaning.len() == 1).collect();
         assert_eq!(letters, strings);
     }
 }

@@ -129,8 +129,8 @@ fn standard_error_is_shown_up_to_the_first_answer_that_is_not_accepted() {
 fn the_first_difference_is_named() {
     let (_, ran) = mark("different", "answer \"$@\" | sed '1s/^R..../R\\x02\\x00\\x00\\x00/'", &[]);
     let last = ran.text().lines().last().unwrap();
-    let expected = "first difference from the true answer: byte 1: R, number of entities: 02000000 stands there, and the true answer has 00000001";
-    assert_eq!((ran.status, last), (1, expected));
+    let expected = "byte 1: R, number of entities: 02000000 stands there, and the true answer has 00000001";
+    assert_eq!((ran.status, last), (1, format!("first difference from the true answer: {expected}").as_str()));
 }
 
 #[test]
@@ -221,7 +221,7 @@ fn a_file_that_is_no_program_has_a_hint() {
     folder.host("lost", "");
     folder.file("lost", b"#!/no/such/interpreter\n");
     for (name, said) in [
-        ("./plain", "./plain: Permission denied (os error 13): 'chmod +x ./plain' lets it be started; or start it by words, as in 'mark -- "),
+        ("./plain", "./plain: Permission denied (os error 13): 'chmod +x ./plain' lets it be started; or start it by words, as in "),
         ("./bare", "./bare: Exec format error (os error 8): its first line does not name its interpreter"),
         ("./lost", "./lost: No such file or directory (os error 2): the file is there, but not the program that its first line names"),
     ] {
