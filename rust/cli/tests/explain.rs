@@ -71,6 +71,19 @@ fn what_cannot_be_read_is_said_last() {
 }
 
 #[test]
+fn each_place_of_a_forward_answer_has_its_letters() {
+    let k = Logged::k();
+    let (good, proof) = (k.answer(2, 2, 20), k.answer(0, 2, 20).len());
+    for (place, byte, due) in [(0, b'S', "B or F"), (5, b'T', "S"), (18, b'S', "T or D or V"), (35, b'E', "T or D or V")] {
+        let mut answer = good.clone();
+        answer[proof + place] = byte;
+        let ran = explained(&answer);
+        let said = format!("byte {}: {byte:02x} is not a letter due, which is {due}", proof + place);
+        assert_eq!((ran.status, ran.text().lines().last()), (1, Some(said.as_str())));
+    }
+}
+
+#[test]
 fn a_position_that_no_earlier_record_has_is_said() {
     let mut answer = Logged::k().answer(1, 2, 35);
     answer[441] = 2;
