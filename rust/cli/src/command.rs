@@ -6,7 +6,7 @@ use crate::args::{asks_help, direction, number};
 use crate::failure::{Done, Failure};
 
 /// The options that are followed by a word; the others stand alone.
-const WITH_WORD: [&str; 5] = ["-o", "--svg", "--seed", "--limit", "--keep"];
+const WITH_WORD: [&str; 7] = ["-o", "--svg", "--html", "--names", "--seed", "--limit", "--keep"];
 
 pub struct Command {
     /// One word, or two of which the second is an option.

@@ -1,7 +1,7 @@
 //! The commands, each with its words, its help and what it does.
 
 use reference::hex::to_hex;
-use viewer::{Checked, Question, Refusal};
+use viewer::{Checked, Question, Refusal, DIGEST};
 
 use crate::args;
 use crate::calls;
@@ -13,7 +13,10 @@ use crate::failure::{Done, Failure};
 use crate::files;
 use crate::forge;
 use crate::history::{self, History};
+use crate::lanes;
 use crate::mark;
+use crate::names::Names;
+use crate::page::{self, Head};
 use crate::rows;
 use crate::svg;
 use crate::textlog;
@@ -97,12 +100,14 @@ POSITION: CAUSE', with status 1.
     Command {
         name: "show",
         words: "COMMITMENT DIRECTION ENTITY TIME ANSWER",
-        options: &["--svg"],
-        shown: "[--svg FILE]",
-        about: "a checked answer's history as text, and with --svg as a picture too",
+        options: &["--graph", "--html", "--names", "--svg"],
+        shown: "[--graph] [--html FILE [--names FILE]] [--svg FILE]",
+        about: "a checked answer's history as text, and as a page for a browser (--html) or a picture for print (--svg) too",
         details: "\
-A line a version, by rising time, with the edges that lead to it. In the picture each entity has its lane and time runs down.
-With '--svg -' the picture alone is written.
+A line a version, by rising time, with the edges that lead to it; with --graph as lanes, one for each entity while it is in play. The
+page needs nothing from outside and is pleasant for any number of records; the picture is, for some hundred. Time runs down in both.
+With '--html -' or '--svg -' that alone is written. A file of names has a line each: 'entity NUMBER NAME', 'kind NUMBER NAME' or
+'time unix', for times that are seconds since 1970. Names are shown in the page, and are not part of what is checked.
 ",
         run: show,
     },
@@ -205,18 +210,18 @@ fn answer(words: &Words) -> Done {
 }
 
 /// What `check` and `show` have in common: the question, and the answer's bytes checked against the commitment.
-fn with_checked(words: &Words, then: impl FnOnce(&Question, &Checked) -> Done) -> Done {
+fn with_checked(words: &Words, then: impl FnOnce(&Question, &[u8; DIGEST], &Checked) -> Done) -> Done {
     let question = words.question(1)?;
     let (commitment, answer) = (words.plain(0), words.plain(4));
     args::one_input(commitment, answer)?;
     let commitment = args::commitment(commitment)?;
     let answer = files::read(answer)?;
     let checked = calls::checked(&question, &commitment, &answer);
-    then(&question, &checked.map_err(|refusal| Failure::Answer(refusal.to_string()))?)
+    then(&question, &commitment, &checked.map_err(|refusal| Failure::Answer(refusal.to_string()))?)
 }
 
 fn check(words: &Words) -> Done {
-    with_checked(words, |question, checked| files::write("-", accepted(question, checked).as_bytes()))
+    with_checked(words, |question, _, checked| files::write("-", accepted(question, checked).as_bytes()))
 }
 
 /// What an accepted answer says, with the question that it was checked for: two words that were exchanged show.
@@ -238,17 +243,22 @@ fn ask(words: &Words) -> Done {
 }
 
 fn show(words: &Words) -> Done {
-    with_checked(words, |question, checked| {
+    let names = words.option("--names").map(Names::read).transpose()?;
+    with_checked(words, |question, commitment, checked| {
         let history = History::of(question, checked);
         let verdict = history::verdict(question, &checked.verdict);
-        let picture = words.option("--svg");
-        if let Some(file) = picture {
+        if let Some(file) = words.option("--svg") {
             let title = format!("{}: {verdict}", history::asked(question));
             files::write(file, svg::picture(&title, &history).as_bytes())?;
         }
-        if picture == Some("-") {
+        if let Some(file) = words.option("--html") {
+            let head = Head { question, verdict: &verdict, commitment: &to_hex(commitment) };
+            files::write(file, page::page(&head, &history, names.as_ref()).as_bytes())?;
+        }
+        if ["--svg", "--html"].iter().any(|option| words.option(option) == Some("-")) {
             return Ok(());
         }
-        files::write("-", format!("{verdict}\n{}", history.text()).as_bytes())
+        let text = if words.option("--graph").is_some() { lanes::text(&history) } else { history.text() };
+        files::write("-", format!("{verdict}\n{text}").as_bytes())
     })
 }
