@@ -22,12 +22,32 @@ pub fn direction(word: &str) -> Result<Direction, Failure> {
     word.parse().map_err(|reason| Failure::Use(format!("DIRECTION '{word}' is {reason}")))
 }
 
+/// A field's whole numbers, all of which fit 64 bits.
+pub trait Field: TryFrom<u64> {
+    const MOST: u64;
+}
+
+impl Field for u8 {
+    const MOST: u64 = u8::MAX as u64;
+}
+
+impl Field for u32 {
+    const MOST: u64 = u32::MAX as u64;
+}
+
+impl Field for u64 {
+    const MOST: u64 = u64::MAX;
+}
+
 /// A decimal number that fits its field.
-pub fn number<T: std::str::FromStr>(what: &str, word: &str) -> Result<T, Failure>
-where
-    T::Err: std::fmt::Display,
-{
-    word.parse().map_err(|reason| Failure::Use(format!("{what} '{word}': {reason}")))
+pub fn number<T: Field>(what: &str, word: &str) -> Result<T, Failure> {
+    field(what, word).map_err(Failure::Use)
+}
+
+/// The same, with the reason alone where it is none.
+pub fn field<T: Field>(what: &str, word: &str) -> Result<T, String> {
+    let wrong = || format!("{what} '{word}' is no whole number from 0 to {}", T::MOST);
+    word.parse::<u64>().ok().and_then(|number| T::try_from(number).ok()).ok_or_else(wrong)
 }
 
 /// A commitment: 64 hex digits, or a file that holds them or the 32 bytes themselves.
@@ -35,12 +55,24 @@ pub fn commitment(word: &str) -> Result<[u8; 32], Failure> {
     if let Some(commitment) = from_hex(word) {
         return Ok(commitment);
     }
-    let bytes = files::read(word)?;
+    let bytes = files::read(word).map_err(|failure| nearly_hex(word).unwrap_or(failure))?;
     let text = std::str::from_utf8(&bytes).ok().and_then(|text| from_hex(text.trim()));
     text.or_else(|| bytes.as_slice().try_into().ok()).ok_or_else(|| {
         let name = files::input_name(word);
         Failure::Use(format!("{name}: a commitment is 64 hex digits or 32 bytes, and this is neither ({} bytes)", bytes.len()))
     })
+}
+
+/// What is wrong with a word that was meant as hex digits and names no file.
+fn nearly_hex(word: &str) -> Option<Failure> {
+    let digits = word.strip_prefix("0x").or(word.strip_prefix("0X"));
+    let hint = |text: &str| Failure::Use(format!("{word}: {text}"));
+    let is_hex = |text: &str| text.len() >= 32 && text.bytes().all(|digit| digit.is_ascii_hexdigit());
+    match digits {
+        Some(digits) if is_hex(digits) => Some(hint("a commitment is written without 0x, as 64 hex digits")),
+        None if is_hex(word) => Some(hint(&format!("a commitment has 64 hex digits, this has {}", word.len()))),
+        _ => None,
+    }
 }
 
 fn from_hex(text: &str) -> Option<[u8; 32]> {
@@ -75,6 +107,15 @@ mod tests {
         assert_eq!(number("TIME", "18446744073709551615"), Ok(u64::MAX));
         assert!(number::<u64>("TIME", "18446744073709551616").is_err());
         assert!(number::<u64>("TIME", "-1").is_err());
+        assert_eq!(number::<u8>("KIND", "256"), Err(Failure::Use("KIND '256' is no whole number from 0 to 255".into())));
+    }
+
+    #[test]
+    fn nearly_a_commitment_is_told() {
+        let said = |word: &str| commitment(word).map_err(|failure| format!("{failure:?}")).unwrap_err();
+        assert!(said(&"a".repeat(63)).contains("has 64 hex digits, this has 63"));
+        assert!(said(&("0x".to_string() + &"a".repeat(64))).contains("without 0x"));
+        assert!(said("abc").contains("No such file"));
     }
 
     #[test]

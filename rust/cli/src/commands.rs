@@ -14,6 +14,7 @@ use crate::files;
 use crate::forge;
 use crate::history::{self, History};
 use crate::lanes;
+use crate::listing;
 use crate::mark;
 use crate::names::Names;
 use crate::page::{self, Head};
@@ -40,22 +41,23 @@ pub const ALL: &[Command] = &[
     Command {
         name: "log",
         words: "FILE",
-        options: &["--text", "-o"],
-        shown: "[--text] [-o FILE]",
+        options: &["--text", "--unsound", "-o"],
+        shown: "[--text | --unsound] [-o FILE]",
         about: "a log from its text form; with --text, the text form of a log",
         details: "\
 The text has a record a line: 'birth ENTITY TIME' or 'flow SOURCE DESTINATION KIND TIME', in decimal. What follows '#' is a comment,
-and empty lines are passed over. A log that is not sound is written all the same, and the row that it meets is said on standard error.
+and empty lines are passed over. Of a log that is not sound the first line that is turned away is named, with its row; with --unsound
+it is written all the same.
 ",
         run: log,
     },
     Command {
         name: "list",
         words: "LOG",
-        options: &[],
-        shown: "",
+        options: &["--all"],
+        shown: "[--all]",
         about: "what the listing program prints: a line a version, for a log of at most 512 records and 9,216 bytes",
-        details: "The records of a longer log are shown by 'log --text'.\n",
+        details: "With --all the same lines of a log of any length, not by the proved listing but by this program.\n",
         run: list,
     },
     Command {
@@ -166,29 +168,39 @@ hashed in building the commitment and one in the check. The status is 0 if a fal
 
 fn log(words: &Words) -> Done {
     let name = words.plain(0);
-    let given = files::read(name)?;
-    let called = files::input_name(name);
-    let (log, result) = if words.option("--text").is_some() {
-        let text = textlog::to_text(&given).map_err(|refusal| rows::refused_log(name, &refusal))?;
-        (given, text.into_bytes())
-    } else {
-        let log = textlog::to_bytes(&given).map_err(|reason| Failure::Use(format!("{called}: {reason}")))?;
-        (log.clone(), log)
-    };
-    if let Err(refusal) = viewer::log(&log) {
-        eprintln!("bozhtagul: {called}: the log is not sound: {refusal}");
+    if words.option("--text").is_some() {
+        let log = files::read(name)?;
+        let text = textlog::to_text(&log).map_err(|refusal| rows::refused_log(name, &refusal))?;
+        if let Err(refusal) = viewer::log(&log) {
+            eprintln!("bozhtagul: {}: the log is not sound: {refusal}", files::input_name(name));
+        }
+        return files::write(words.output(), text.as_bytes());
     }
-    files::write(words.output(), &result)
+    let text = files::read(name)?;
+    let log = textlog::to_bytes(&text).map_err(|reason| Failure::Use(format!("{}: {reason}", files::input_name(name))))?;
+    if let Err(refusal) = viewer::log(&log) {
+        let line = textlog::line_of(&text, refusal.position).map_or(String::new(), |line| format!(" line {line}:"));
+        let said = format!("{}:{line} the log is not sound: {refusal}", files::input_name(name));
+        if words.option("--unsound").is_none() {
+            return Err(Failure::Log(format!("{said} (--unsound writes it all the same)")));
+        }
+        eprintln!("bozhtagul: {said}");
+    }
+    files::write(words.output(), &log)
 }
 
 fn list(words: &Words) -> Done {
     let name = words.plain(0);
     let log = files::read_log(name)?;
     let refused = |refusal: Refusal| rows::refused_log(name, &refusal);
+    if words.option("--all").is_some() {
+        viewer::log(&log).map_err(refused)?;
+        return files::write("-", listing::all(&log).as_bytes());
+    }
     let listing = calls::listing(&log).map_err(refused)?;
     files::write("-", &listing)?;
     if listing == b"too long\n" {
-        return Err(Failure::Log(format!("{}: above 512 records or 9,216 bytes", files::input_name(name))));
+        return Err(Failure::Log(format!("{}: above 512 records or 9,216 bytes (--all lists them)", files::input_name(name))));
     }
     viewer::log(&log).map(|_| ()).map_err(refused)
 }

@@ -18,6 +18,7 @@ mod host;
 mod hosts;
 mod json;
 mod lanes;
+mod listing;
 mod mark;
 mod names;
 mod page;

@@ -7,5 +7,9 @@ use crate::files;
 
 /// A log that a call refused.
 pub fn refused_log(name: &str, refusal: &Refusal) -> Failure {
-    Failure::Log(format!("{}: {refusal}", files::input_name(name)))
+    let hint = match refusal {
+        Refusal { number: 3, position: 0 } => " (if this is a log's text form, 'log' writes its bytes)",
+        _ => "",
+    };
+    Failure::Log(format!("{}: {refusal}{hint}", files::input_name(name)))
 }

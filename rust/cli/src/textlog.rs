@@ -1,9 +1,11 @@
 //! The text form of a log: a record a line, `birth ENTITY TIME` or `flow SOURCE DESTINATION KIND TIME`. What follows `#`, and empty
 //! lines, say nothing. Every run of whole records has a text form, sound or not.
 
-use std::str::{FromStr, SplitWhitespace};
+use std::str::SplitWhitespace;
 
 use viewer::Refusal;
+
+use crate::args::{self, Field};
 
 const BIRTH: u8 = 1;
 const FLOW: u8 = 2;
@@ -13,9 +15,28 @@ pub fn to_bytes(text: &[u8]) -> Result<Vec<u8>, String> {
     let mut log = Vec::new();
     for (place, line) in text.split(|byte| *byte == b'\n').enumerate() {
         let read = std::str::from_utf8(line).map_err(|_| "not UTF-8 text".to_string()).and_then(|line| record(line, &mut log));
-        read.map_err(|reason| format!("line {}: {reason}", place + 1))?;
+        read.map_err(|reason| format!("line {}: {reason}{}", place + 1, hint(line)))?;
     }
     Ok(log)
+}
+
+/// What may help with a line that cannot be read: a log's first byte is no letter.
+fn hint(line: &[u8]) -> &'static str {
+    match line.iter().any(|byte| byte.is_ascii_control() && !byte.is_ascii_whitespace()) {
+        true => " (if this is a log as bytes, 'log --text' writes its text form)",
+        false => "",
+    }
+}
+
+/// The line of a text whose record begins at a byte of the log.
+pub fn line_of(text: &[u8], position: u64) -> Option<usize> {
+    let mut log = Vec::new();
+    let mut lines = text.split(|byte| *byte == b'\n').enumerate();
+    lines.find_map(|(place, line)| {
+        let start = log.len() as u64;
+        std::str::from_utf8(line).ok().and_then(|line| record(line, &mut log).ok())?;
+        (start == position && log.len() as u64 > start).then_some(place + 1)
+    })
 }
 
 /// Appends the record of a line, if it has one.
@@ -42,12 +63,8 @@ fn record(line: &str, log: &mut Vec<u8>) -> Result<(), String> {
     }
 }
 
-fn field<T: FromStr>(words: &mut SplitWhitespace, what: &str) -> Result<T, String>
-where
-    T::Err: std::fmt::Display,
-{
-    let word = words.next().ok_or_else(|| format!("the {what} is missing"))?;
-    word.parse().map_err(|reason| format!("{what} '{word}': {reason}"))
+fn field<T: Field>(words: &mut SplitWhitespace, what: &str) -> Result<T, String> {
+    args::field(what, words.next().ok_or_else(|| format!("the {what} is missing"))?)
 }
 
 /// The text of a log's records; else row 3 or 4, for bytes that are no record.
@@ -114,9 +131,9 @@ mod tests {
             ("birth 1 10\n\nbirth 2", "line 3: the time is missing"),
             ("birth", "line 1: the entity is missing"),
             ("#\nbirth 1 10 7", "line 2: '7' stands after the record's end"),
-            ("flow 1 2 256 30", "line 1: kind '256': number too large to fit in target type"),
-            ("flow 1 4294967296 7 30", "line 1: destination '4294967296': number too large to fit in target type"),
-            ("birth -1 10", "line 1: entity '-1': invalid digit found in string"),
+            ("flow 1 2 256 30", "line 1: kind '256' is no whole number from 0 to 255"),
+            ("flow 1 4294967296 7 30", "line 1: destination '4294967296' is no whole number from 0 to 4294967295"),
+            ("birth -1 10", "line 1: entity '-1' is no whole number from 0 to 4294967295"),
         ] {
             assert_eq!(to_bytes(text.as_bytes()), Err(said.to_string()));
         }

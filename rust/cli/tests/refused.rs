@@ -78,17 +78,21 @@ fn another_question_or_commitment_is_refused() {
 #[test]
 fn unsound_logs_are_refused_with_their_row() {
     let folder = Folder::new("unsound");
-    for (text, said) in [
-        ("", "refused 1 at 0: log empty"),
-        ("birth 1 10\nbirth 2 10", "refused 5 at 13: time not above the record before"),
-        ("birth 2 10\nbirth 1 20", "refused 6 at 13: birth not above earlier births"),
-        ("flow 1 2 7 30", "refused 7 at 0: flow's source unborn"),
-        ("birth 1 10\nflow 1 2 7 30", "refused 8 at 13: destination unborn"),
-        ("birth 1 10\nflow 1 1 7 50", "refused 9 at 13: source is destination"),
+    for (text, line, said) in [
+        ("", "", "refused 1 at 0: log empty"),
+        ("birth 1 10\nbirth 2 10", " line 2:", "refused 5 at 13: time not above the record before"),
+        ("birth 2 10\n# no\n\nbirth 1 20", " line 4:", "refused 6 at 13: birth not above earlier births"),
+        ("flow 1 2 7 30", " line 1:", "refused 7 at 0: flow's source unborn"),
+        ("birth 1 10\nflow 1 2 7 30", " line 2:", "refused 8 at 13: destination unborn"),
+        ("birth 1 10\nflow 1 1 7 50", " line 2:", "refused 9 at 13: source is destination"),
     ] {
         let log = folder.path("log");
-        let made = run_on(text.as_bytes(), &["log", "-", "-o", &log]);
-        assert_eq!((made.status, made.err), (0, format!("bozhtagul: standard input: the log is not sound: {said}\n")));
+        let told = format!("standard input:{line} the log is not sound: {said}");
+        let _ = std::fs::remove_file(&log);
+        assert_failed(&run_on(text.as_bytes(), &["log", "-", "-o", &log]), 1, &[&told, "--unsound"]);
+        assert!(!std::path::Path::new(&log).exists());
+        let made = run_on(text.as_bytes(), &["log", "-", "--unsound", "-o", &log]);
+        assert_eq!((made.status, made.err), (0, format!("bozhtagul: {told}\n")));
         let told = format!("{log}: {said}");
         assert_failed(&run(&["commit", &log]), 1, &[&told]);
         assert_failed(&run(&["answer", &log, "only", "1", "10"]), 1, &[&told]);
@@ -102,7 +106,8 @@ fn unsound_logs_are_refused_with_their_row() {
 #[test]
 fn bytes_that_are_no_records_have_no_text() {
     let k = Logged::k();
-    assert_failed(&run_on(b"birth 1 10", &["commit", "-"]), 1, &["standard input: refused 3 at 0: command unknown"]);
+    assert_failed(&run_on(b"birth 1 10", &["commit", "-"]), 1, &["standard input: refused 3 at 0: command unknown", "text form"]);
+    assert_failed(&run_on(&k.log, &["log", "-"]), 2, &["standard input: line 1: ", "'log --text' writes its text form"]);
     assert_failed(&run_on(&k.log[..61], &["log", "--text", "-"]), 1, &["standard input: refused 4 at 44: record cut short"]);
 }
 
@@ -111,7 +116,9 @@ fn a_long_log_is_not_listed() {
     let log = Logged::new(&births(513)).log;
     let ran = run_on(&log, &["list", "-"]);
     assert_eq!((ran.status, ran.text()), (1, "too long\n"));
-    assert!(ran.err.contains("512 records"));
+    assert!(ran.err.contains("512 records") && ran.err.contains("--all"));
+    let all = String::from_utf8(run_on(&log, &["list", "-", "--all"]).good()).unwrap();
+    assert_eq!((all.lines().count(), all.lines().last()), (513, Some("512 512 birth")));
     let most = Logged::new(&births(512)).log;
     assert_eq!(run_on(&most, &["list", "-"]).good().split(|byte| *byte == b'\n').count(), 513);
 }
@@ -120,7 +127,7 @@ fn a_long_log_is_not_listed() {
 fn a_text_that_cannot_be_read_names_its_line() {
     let folder = Folder::new("bad_text");
     let text = folder.file("bad.txt", b"birth 1 10\n# no\nbirth two 20\n");
-    assert_failed(&run(&["log", &text]), 2, &[&format!("{text}: line 3: entity 'two': invalid digit")]);
+    assert_failed(&run(&["log", &text]), 2, &[&format!("{text}: line 3: entity 'two' is no whole number from 0 to 4294967295")]);
     assert_failed(&run(&["log", &text, "-o", &folder.path("none")]), 2, &["line 3"]);
     assert!(!std::path::Path::new(&folder.path("none")).exists());
 }
