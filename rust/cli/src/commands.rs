@@ -18,6 +18,7 @@ use crate::listing;
 use crate::mark;
 use crate::names::Names;
 use crate::page::{self, Head};
+use crate::report;
 use crate::rows;
 use crate::svg;
 use crate::textlog;
@@ -54,10 +55,13 @@ it is written all the same.
     Command {
         name: "list",
         words: "LOG",
-        options: &["--all"],
-        shown: "[--all]",
+        options: &["--all", "--json"],
+        shown: "[--all] [--json]",
         about: "what the listing program prints: a line a version, for a log of at most 512 records and 9,216 bytes",
-        details: "With --all the same lines of a log of any length, not by the proved listing but by this program.\n",
+        details: "\
+With --all the same lines of a log of any length, not by the proved listing but by this program. With --json all versions in JSON; times are
+texts there, because many readers' numbers have 53 bits.
+",
         run: list,
     },
     Command {
@@ -90,8 +94,8 @@ it is written all the same.
     Command {
         name: "check",
         words: "COMMITMENT DIRECTION ENTITY TIME ANSWER",
-        options: &[],
-        shown: "",
+        options: &["--json"],
+        shown: "[--json]",
         about: "what an answer says, if it is the true one; else the row that refuses it",
         details: "\
 What was checked is said too: 'accepted: 2 at 35, backward: found 2 at 30, 3 records'. A refusal is said as 'refused NUMBER at
@@ -102,8 +106,8 @@ POSITION: CAUSE', with status 1.
     Command {
         name: "show",
         words: "COMMITMENT DIRECTION ENTITY TIME ANSWER",
-        options: &["--graph", "--html", "--names", "--svg"],
-        shown: "[--graph] [--html FILE [--names FILE]] [--svg FILE]",
+        options: &["--graph", "--html", "--json", "--names", "--svg"],
+        shown: "[--graph | --json] [--html FILE [--names FILE]] [--svg FILE]",
         about: "a checked answer's history as text, and as a page for a browser (--html) or a picture for print (--svg) too",
         details: "\
 A line a version, by rising time, with the edges that lead to it; with --graph as lanes, one for each entity while it is in play. The
@@ -137,8 +141,8 @@ last line, with status 1.
     Command {
         name: "mark",
         words: "HOST..",
-        options: &["--seed", "--limit", "--keep"],
-        shown: "[--seed NUMBER] [--limit SECONDS] [--keep FOLDER] [-- PROGRAM WORD..]",
+        options: &["--json", "--seed", "--limit", "--keep"],
+        shown: "[--json] [--seed NUMBER] [--limit SECONDS] [--keep FOLDER] [-- PROGRAM WORD..]",
         about: "runs participants' programs on made logs, and counts the answers that the check accepts",
         details: "\
 HOST is run once for each question, with the direction (0, 1 or 2), the entity and the time as its words and the log on standard input;
@@ -154,7 +158,7 @@ question, the answer and what is said of it, of several hosts in a folder each. 
     },
     Command {
         name: "mark --forge",
-        words: "ANSWER LOG DIRECTION ENTITY TIME",
+        words: "LOG DIRECTION ENTITY TIME ANSWER",
         options: &[],
         shown: "",
         about: "whether a false answer passed the check, and then two different strings with one SHA-256 value",
@@ -193,9 +197,10 @@ fn list(words: &Words) -> Done {
     let name = words.plain(0);
     let log = files::read_log(name)?;
     let refused = |refusal: Refusal| rows::refused_log(name, &refusal);
-    if words.option("--all").is_some() {
+    if words.option("--all").is_some() || is_json(words) {
         viewer::log(&log).map_err(refused)?;
-        return files::write("-", listing::all(&log).as_bytes());
+        let lines = listing::all(&log);
+        return files::write("-", if is_json(words) { report::listed(&lines) } else { lines }.as_bytes());
     }
     let listing = calls::listing(&log).map_err(refused)?;
     files::write("-", &listing)?;
@@ -228,12 +233,21 @@ fn with_checked(words: &Words, then: impl FnOnce(&Question, &[u8; DIGEST], &Chec
     args::one_input(commitment, answer)?;
     let commitment = args::commitment(commitment)?;
     let answer = files::read(answer)?;
-    let checked = calls::checked(&question, &commitment, &answer);
-    then(&question, &commitment, &checked.map_err(|refusal| Failure::Answer(refusal.to_string()))?)
+    let said = |refusal: Refusal| if is_json(words) { report::refused(&refusal) } else { refusal.to_string() };
+    let checked = calls::checked(&question, &commitment, &answer).map_err(|refusal| Failure::Answer(said(refusal)))?;
+    then(&question, &commitment, &checked)
+}
+
+/// Whether a result is written as JSON, for programs.
+fn is_json(words: &Words) -> bool {
+    words.option("--json").is_some()
 }
 
 fn check(words: &Words) -> Done {
-    with_checked(words, |question, _, checked| files::write("-", accepted(question, checked).as_bytes()))
+    with_checked(words, |question, commitment, checked| {
+        let text = if is_json(words) { report::accepted(question, commitment, checked, None) } else { accepted(question, checked) };
+        files::write("-", text.as_bytes())
+    })
 }
 
 /// What an accepted answer says, with the question that it was checked for: two words that were exchanged show.
@@ -269,6 +283,9 @@ fn show(words: &Words) -> Done {
         }
         if ["--svg", "--html"].iter().any(|option| words.option(option) == Some("-")) {
             return Ok(());
+        }
+        if is_json(words) {
+            return files::write("-", report::accepted(question, commitment, checked, Some(&history)).as_bytes());
         }
         let text = if words.option("--graph").is_some() { lanes::text(&history) } else { history.text() };
         files::write("-", format!("{verdict}\n{text}").as_bytes())

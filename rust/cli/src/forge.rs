@@ -21,14 +21,22 @@ enum Outcome {
 }
 
 pub fn run(words: &Words) -> Done {
-    let question = words.question(2)?;
-    let (answer, name) = (words.plain(0), words.plain(1));
+    let question = words.question(1).map_err(in_order)?;
+    let (name, answer) = (words.plain(0), words.plain(4));
     args::one_input(answer, name)?;
     let (answer, log) = (files::read(answer)?, files::read_log(name)?);
     match outcome(&question, &log, &answer).map_err(|refusal| rows::refused_log(name, &refusal))? {
         Outcome::Refused(refusal) => Err(Failure::Answer(format!("not passed: {refusal}"))),
         Outcome::Defined => Err(Failure::Answer("not false: this is the true answer".into())),
         Outcome::Passed(collision) => files::write("-", passed(collision.as_ref())?.as_bytes()),
+    }
+}
+
+/// The answer stood first once; whoever puts it there is told the order.
+fn in_order(failure: Failure) -> Failure {
+    match failure {
+        Failure::Use(text) => Failure::Use(format!("{text}\nthe words are LOG DIRECTION ENTITY TIME ANSWER, in this order")),
+        other => other,
     }
 }
 

@@ -22,6 +22,7 @@ mod listing;
 mod mark;
 mod names;
 mod page;
+mod report;
 mod rows;
 mod sample;
 mod seed;

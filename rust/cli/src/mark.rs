@@ -16,6 +16,7 @@ use crate::files;
 use crate::history;
 use crate::host::Host;
 use crate::hosts::{self, Hosts};
+use crate::json;
 use crate::sample;
 use crate::seed;
 use crate::tally::{Marked, Tally, HEADING};
@@ -39,9 +40,44 @@ pub fn run(words: &Words) -> Done {
     let seed = seed::of(words)?;
     let keep = words.option("--keep").map(Path::new);
     match hosts {
+        Hosts::One(host) if words.option("--json").is_some() => in_json(&[host], seed, keep),
+        Hosts::Class(hosts) if words.option("--json").is_some() => in_json(&hosts, seed, keep),
         Hosts::One(host) => one(&host, seed, keep),
         Hosts::Class(hosts) => class(&hosts, seed, keep),
     }
+}
+
+/// The programs' tallies for a program to read, all at the end.
+fn in_json(hosts: &[Host], seed: u64, keep: Option<&Path>) -> Done {
+    let (mut full, mut told) = (0, Vec::new());
+    for host in hosts {
+        let mut fields = vec![("host", json::text(&host.name))];
+        match of_class(host, seed, keep) {
+            Err(Failure::Use(reason)) => fields.push(("not_started", json::text(&reason))),
+            Err(failure) => return Err(failure),
+            Ok((all, fault)) => {
+                full += usize::from(fault.is_none());
+                fields.extend(all.fields());
+                fields.extend(fault.map(|fault| ("said", json::text(&fault.said))));
+            }
+        }
+        told.push(json::object(fields));
+    }
+    let text = json::object([("seed", json::text(&seed.to_string())), ("hosts", json::list(told.into_iter()))]);
+    match full == hosts.len() {
+        true => files::write("-", format!("{text}\n").as_bytes()),
+        false => Err(Failure::Answer(text)),
+    }
+}
+
+/// All questions to one program of several, and what is kept of its first fault.
+fn of_class(host: &Host, seed: u64, keep: Option<&Path>) -> Result<(Tally, Option<Fault>), Failure> {
+    is_there(host)?;
+    let (all, first) = marked(host, seed, true, |_, _| Ok(()))?;
+    if let (Some(fault), Some(folder)) = (&first, keep) {
+        fault.keep(&folder.join(host.name.replace('/', "_")))?;
+    }
+    Ok((all, first))
 }
 
 /// One program: a line a log, and what is said of its first answer that was not accepted.
@@ -63,13 +99,11 @@ fn class(hosts: &[Host], seed: u64, keep: Option<&Path>) -> Done {
     let mut full = 0;
     for host in hosts {
         let name = format!("{:<width$}", host.name);
-        let line = match is_there(host).and_then(|()| marked(host, seed, true, |_, _| Ok(()))) {
+        let line = match of_class(host, seed, keep) {
             Err(Failure::Use(reason)) => format!("{name}  not started: {reason}\n"),
             Err(failure) => return Err(failure),
             Ok((all, first)) => {
                 full += usize::from(first.is_none());
-                let folder = keep.map(|folder| folder.join(host.name.replace('/', "_")));
-                first.zip(folder).map_or(Ok(()), |(fault, folder)| fault.keep(&folder))?;
                 all.line(&name)
             }
         };

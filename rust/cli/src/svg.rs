@@ -1,7 +1,8 @@
 //! A checked history as an SVG picture: a lane for each entity, side by side, and a row for each version, time running down.
 //!
-//! A version has its row alone, and the names of the lanes stand above all rows in a lane's width, so no two labels meet, whatever the
-//! number of records. The width of every text is fixed in the picture, so this does not hang on the reader's fonts.
+//! A version has its row alone, with its label in one column to the right of all lanes, and the names of the lanes stand above all rows in a
+//! lane's width. So no two labels meet and no line crosses one, whatever the number of records. The width of every text is fixed in the
+//! picture, so this does not hang on the reader's fonts.
 
 use std::collections::BTreeMap;
 
@@ -53,9 +54,10 @@ impl Picture {
     }
 }
 
-/// Where the lanes and the rows are.
+/// Where the lanes, the column of labels and the rows are.
 struct Layout {
     lanes: BTreeMap<u32, usize>,
+    labels: usize,
     top: usize,
     bottom: usize,
 }
@@ -67,8 +69,9 @@ impl Layout {
         let width = LEAST_LANE.max(CHARACTER * widest + GAP);
         let first = MARGIN + CHARACTER * "entity".len() + GAP;
         lanes.values_mut().enumerate().for_each(|(place, x)| *x = first + width * place);
+        let labels = first + width * lanes.len().saturating_sub(1) + 3 * GAP;
         let top = MARGIN + 3 * LINE;
-        Layout { lanes, top, bottom: top + ROW * history.records.len() }
+        Layout { lanes, labels, top, bottom: top + ROW * history.records.len() }
     }
 
     fn lane(&self, record: &Record) -> usize {
@@ -94,7 +97,23 @@ pub fn picture(title: &str, history: &History) -> String {
     for position in 0..history.records.len() {
         node(&mut picture, &layout, history, position);
     }
-    whole(picture.width, layout.bottom + MARGIN, &picture.body)
+    if !history.records.is_empty() {
+        legend(&mut picture, layout.bottom + 2 * LINE);
+    }
+    whole(picture.width, layout.bottom + MARGIN + 5 * LINE, &picture.body)
+}
+
+/// What the lines and the ring mean, a line each.
+fn legend(picture: &mut Picture, top: usize) {
+    let (left, right) = (MARGIN, MARGIN + 24);
+    for (place, (class, text)) in [("temporal", "the next version of an entity"), ("dependency", "fed by another entity, with its kind")].iter().enumerate() {
+        let y = top + LINE * place;
+        picture.put(&format!("<path class='legend {class}' d='M {left} {y} H {right}'/>"));
+        picture.label("legend", right + GAP, y + 4, text);
+    }
+    let y = top + 2 * LINE;
+    picture.put(&format!("<circle class='legend ring' cx='{}' cy='{y}' r='{}'/>", (left + right) / 2, RADIUS + 1));
+    picture.label("legend", right + GAP, y + 4, "the version found");
 }
 
 fn whole(width: usize, height: usize, body: &str) -> String {
@@ -143,7 +162,7 @@ fn path(layout: &Layout, history: &History, edge: &Edge, end: usize) -> String {
     format!("<path class='{class}' d='{way}'/>")
 }
 
-/// A version's point, and its label above the row's line.
+/// A version's point, and its label in the column of labels.
 fn node(picture: &mut Picture, layout: &Layout, history: &History, position: usize) {
     let record = &history.records[position];
     let (x, y) = (layout.lane(record), layout.row(position));
@@ -158,7 +177,7 @@ fn node(picture: &mut Picture, layout: &Layout, history: &History, position: usi
     }
     let class = if found { "found" } else { "version" };
     picture.put(&format!("<circle class='{class}' cx='{x}' cy='{y}' r='{RADIUS}'/>"));
-    picture.label("name", x + GAP, y - RADIUS, &text);
+    picture.label("name", layout.labels, y + 4, &text);
 }
 
 #[cfg(test)]

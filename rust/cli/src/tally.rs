@@ -48,6 +48,18 @@ impl Tally {
         }
     }
 
+    /// The fields of the line in JSON.
+    pub fn fields(&self) -> Vec<(&'static str, String)> {
+        let rows: Vec<String> = self.refused.iter().map(|(row, times)| format!("\"{row}\":{times}")).collect();
+        vec![
+            ("asked", self.asked.to_string()),
+            ("accepted", self.accepted.to_string()),
+            ("no_answer", self.failed.to_string()),
+            ("seconds", format!("{:.2}", self.time.as_secs_f64())),
+            ("refused", format!("{{{}}}", rows.join(","))),
+        ]
+    }
+
     /// A line, whose name has its width already.
     pub fn line(&self, name: &str) -> String {
         let rows: Vec<String> = self.refused.iter().map(|(row, times)| format!("{times} by row {row}")).collect();

@@ -9,7 +9,7 @@ use reference::random::Random;
 fn forge(name: &str, answer: &[u8]) -> Ran {
     let folder = Folder::new(&format!("forge_{name}"));
     let log = folder.file("log", &Logged::k().log);
-    run(&["mark", "--forge", &folder.file("answer", answer), &log, "backward", "2", "35"])
+    run(&["mark", "--forge", &log, "backward", "2", "35", &folder.file("answer", answer)])
 }
 
 fn assert_not_passed(ran: &Ran, said: &str) {
@@ -51,14 +51,21 @@ fn the_log_has_to_be_there_and_sound() {
     let folder = Folder::new("forge_log");
     let answer = folder.file("answer", b"");
     let cut = folder.file("cut", &Logged::k().log[..61]);
-    let ran = run(&["mark", "--forge", &answer, &cut, "only", "1", "10"]);
+    let ran = run(&["mark", "--forge", &cut, "only", "1", "10", &answer]);
     assert_eq!((ran.status, ran.text()), (1, ""));
     assert!(ran.err.contains("cut: refused 4 at 44: record cut short"), "{}", ran.err);
     for (log, said) in [(folder.path("none"), "none: No such file"), ("-".to_string(), "standard input can be read only once")] {
-        let ran = run(&["mark", "--forge", if log == "-" { "-" } else { &answer }, &log, "only", "1", "10"]);
+        let ran = run(&["mark", "--forge", &log, "only", "1", "10", if log == "-" { "-" } else { &answer }]);
         assert_eq!((ran.status, ran.text()), (2, ""));
         assert!(ran.err.contains(said), "{}", ran.err);
     }
+}
+
+#[test]
+fn another_order_of_the_words_is_told_the_right_one() {
+    let ran = run(&["mark", "--forge", "answer", "log", "only", "1", "10"]);
+    assert_eq!((ran.status, ran.text()), (2, ""));
+    assert!(ran.err.ends_with("the words are LOG DIRECTION ENTITY TIME ANSWER, in this order\n"), "{}", ran.err);
 }
 
 #[test]

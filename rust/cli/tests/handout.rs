@@ -73,6 +73,6 @@ fn the_attempt_of_part_two() {
     assert_eq!(answer[437], 7);
     answer[437] = 8;
     let (answer, log) = (folder.file("answer", &answer), folder.file("log", &table("log")));
-    let ran = run(&["mark", "--forge", &answer, &log, "backward", "2", "35"]);
+    let ran = run(&["mark", "--forge", &log, "backward", "2", "35", &answer]);
     assert_eq!((ran.status, ran.text().lines().collect::<Vec<_>>()), (1, block("forge")));
 }

@@ -58,7 +58,8 @@ fn drawn(records: &[Record], direction: u8, entity: u32, time: u64, lanes: usize
     assert_eq!(count(&picture, "<circle class='found'"), 1);
     assert_eq!(count(&picture, "<path class='lane'"), lanes);
     let boxes = boxes(&picture);
-    assert_eq!(boxes.len(), 2 + lanes + versions);
+    assert_eq!(boxes.len(), 5 + lanes + versions);
+    assert!(nothing_crosses(&picture), "{picture}");
     assert!(overlap(&boxes).is_none(), "{:?}", overlap(&boxes));
     let (width, height) = (attribute(&picture, "width"), attribute(&picture, "height"));
     assert!(boxes.iter().all(|label| label.left >= 0.0 && label.top >= 0.0 && label.right <= width && label.bottom <= height));
@@ -68,6 +69,30 @@ fn drawn(records: &[Record], direction: u8, entity: u32, time: u64, lanes: usize
         assert!(letters > 0.0 && (6.0..=9.0).contains(&(attribute(text, "textLength") / letters)), "{text}");
     }
     picture
+}
+
+/// Every version's label stands to the right of all that is drawn in the lanes.
+fn nothing_crosses(picture: &str) -> bool {
+    let of_class = |class: &str| {
+        let start = format!("class='{class}'");
+        picture.lines().filter(move |line| line.contains(&start)).map(str::to_string).collect::<Vec<_>>()
+    };
+    let numbers = |path: &String| -> Vec<f64> {
+        let way = path.split(" d='").nth(1).unwrap().split('\'').next().unwrap();
+        let words: Vec<&str> = way.split(' ').collect();
+        // what follows V is a height, all else begins with a place from the left
+        let from_left = words.windows(2).filter(|pair| ["M", "H", "Q"].contains(&pair[0])).map(|pair| pair[1].parse().unwrap());
+        from_left.collect()
+    };
+    let reach = ["lane", "temporal", "dependency"].iter().flat_map(|class| of_class(class)).flat_map(|path| numbers(&path)).fold(0.0, f64::max);
+    of_class("name").iter().all(|label| attribute(label, "x") > reach + 5.0)
+}
+
+#[test]
+fn a_crossed_label_is_noticed() {
+    let label = "<text class='name' x='40' y='10'>1 at 1</text>";
+    assert!(nothing_crosses(&format!("<path class='lane' d='M 30 0 V 90'/>\n{label}")));
+    assert!(!nothing_crosses(&format!("<path class='dependency' d='M 30 0 V 90 Q 30 96 36 96 H 80'/>\n{label}")));
 }
 
 #[test]
