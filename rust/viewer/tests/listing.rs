@@ -151,3 +151,11 @@ fn the_program_prints_the_text() {
         assert_eq!(run(&log), reference::listing::text(&log));
     }
 }
+
+#[test]
+fn a_text_that_cannot_be_written_is_said() {
+    let full = std::fs::File::options().write(true).open("/dev/full").expect("/dev/full");
+    let mut program = Command::new(PROGRAM).stdin(Stdio::null()).stdout(full).stderr(Stdio::piped()).spawn().expect("the program");
+    drop(program.stdin.take());
+    assert_eq!(program.wait_with_output().unwrap().stderr, b"the listing cannot be written\n");
+}

@@ -33,14 +33,23 @@ slice-aggregate-write-all c = written-fits _ _ _ _ _ (c .before .before .before 
 write-all-requires : tie.Need-write-all-requires
 write-all-requires c κs = search needs
 
-enum-known-number : tie.Need-enum-known-number
-enum-known-number c = search needs
-
 returns : tie.Need-returns
 returns c = search needs
 
+slice-aggregate-write-all-2 : tie.Need-slice-aggregate-write-all-2
+slice-aggregate-write-all-2 c = search needs
+
+write-all-requires-2 : tie.Need-write-all-requires-2
+write-all-requires-2 c κs = search needs
+
+enum-known-number : tie.Need-enum-known-number
+enum-known-number c = search needs
+
 returns-2 : tie.Need-returns-2
 returns-2 c = search needs
+
+returns-3 : tie.Need-returns-3
+returns-3 c = search needs
 
 pub main-spec : {M : Type 1} → statement M
 main-spec =
@@ -56,6 +65,9 @@ main-spec =
     array-share-prefix-text
     slice-aggregate-write-all
     write-all-requires
-    enum-known-number
     returns
-    returns-2)
+    slice-aggregate-write-all-2
+    write-all-requires-2
+    enum-known-number
+    returns-2
+    returns-3)
