@@ -1,6 +1,6 @@
 -- The hypotheses of demand 3's two clauses have instances, and each clause says something there: at Log K. Assumes nothing.
-use mathlib.Core.Path.{_≡_, refl, ap, _∙_}
-use mathlib.Core.Logic.{_⊎_}
+use mathlib.Core.Path.{_≡_, refl, sym, ap, _∙_}
+use mathlib.Core.Logic.{_⊎_, inl, inr}
 use Prim.Native.Nat.{ℕ, _≤_}
 use native.Mathlib.Omega.{arith}
 use lib.ListN.{length}
@@ -8,13 +8,18 @@ use Rattle.model.specs.Result.{ok}
 use Rattle.model.specs.Numbers.{Bytes}
 use Rattle.model.specs.Graph.{graph}
 use Rattle.model.specs.Question.{backward, trace-of, Question, question, Verdict, count}
-use Rattle.model.specs.Answer.{log-header, log-commitment, log-answer}
-use Rattle.model.specs.Exact.{sought-from, any-version, verdict-at, true-verdict, Escape, Faithful}
+use Rattle.model.specs.Answer.{log-header, log-commitment, log-answer, log-hashed}
+use Rattle.model.specs.CheckRows.{Accepted, run, hashed-in-check}
+use Rattle.model.specs.Exact.{sought-from, any-version, verdict-at, TrueVerdict, true-verdict, Escape, strings, Faithful}
 use Rattle.model.proofs.Walk.{asked}
+use Rattle.model.proofs.Outcomes.{ok-inj}
+use Rattle.model.proofs.LogGraph.{well-formed}
+use Rattle.model.proofs.Verdicts.{true-verdict-only}
+use Rattle.model.proofs.Anchors.{NoCollision}
 use Rattle.model.proofs.LogK.{computed, log-bytes, K, K-sound}
 use Rattle.bozhtagul.specs.declared.Checked.{Checked}
 use Rattle.bozhtagul.specs.Results.{checked}
-use Rattle.bozhtagul.specs.Demand3.{Asked, Exact, Sound, Complete}
+use Rattle.bozhtagul.specs.Demand3.{Asked, Exact, Sound, Accepts, Complete}
 
 -- every known question, asked of K's commitment
 pub asked-of-K : (direction s t : ℕ) (q : Question) → question direction s t ≡ ok q → Asked direction s t (log-commitment K)
@@ -35,19 +40,50 @@ first-verdict : true-verdict (graph K) first-question ≡ Verdict.found 30 3
 unfolding computed sought-from any-version verdict-at true-verdict
 first-verdict = refl
 
--- what the first half says where the call returns number 0
-pub sound-at-K : (x work : Bytes) (r : Checked) → Sound 1 2 35 (log-commitment K) x work r → r .number ≡ 0
-    → (e : Exact 1 2 35 (log-commitment K) x (length work) first-asked r)
-    × (Faithful (log-header K) (graph K) first-question x (e .run-of) ⊎ Escape (log-header K) (graph K) (trace-of backward) (e .run-of))
-unfolding first-asked asked-of-K
-sound-at-K x work r sound zero = let e = sound first-asked zero in (e, e .demand-3)
+-- its numbers
+found-numbers : (v : Verdict) → v ≡ true-verdict (graph K) first-question → checked (ok v) ≡ found-30
+unfolding checked
+found-numbers v e = ap (λ (v : Verdict). checked (ok v)) (e ∙ first-verdict)
 
--- and the second, of the defined answer with 384 bytes of work area
-pub complete-at-K : (work : Bytes) (r : Checked) → 384 ≤ length work
-    → Complete 1 2 35 (log-commitment K) (log-answer K first-question) work r → r ≡ found-30
-unfolding first-asked asked-of-K checked
-complete-at-K work r room complete =
-    complete first-asked refl (omega (arith, room, ap count first-verdict)) .returned ∙ ap (λ (v : Verdict). checked (ok v)) first-verdict
+-- what the paths say of a verdict is enough to know it
+by-paths-alone : (v : Verdict) → TrueVerdict (graph K) first-question v → v ≡ true-verdict (graph K) first-question
+by-paths-alone = true-verdict-only (graph K) (well-formed (log-bytes K) K K-sound) first-question
+
+-- what the second half says of the defined answer with 384 bytes of work area: the numbers, of which the function tells as much as the paths
+module _ (work : Bytes) (r : Checked) (room : 384 ≤ length work) (complete : Complete 1 2 35 (log-commitment K) (log-answer K first-question) work r) where
+  accepts-at-K : Accepts (graph K) first-question r
+  unfolding first-asked asked-of-K
+  accepts-at-K = complete first-asked refl (omega (arith, room, ap count first-verdict))
+
+  pub complete-at-K : r ≡ found-30
+  complete-at-K = accepts-at-K .returned ∙ found-numbers _ (accepts-at-K .by-function)
+
+  pub complete-at-K-by-paths : r ≡ found-30
+  complete-at-K-by-paths = accepts-at-K .returned ∙ found-numbers _ (by-paths-alone _ (accepts-at-K .by-paths))
+
+-- and the first half where the call returns number 0: no collision, no other numbers, and the run is the one that the definition computes
+module _ (x work : Bytes) (r : Checked) (sound : Sound 1 2 35 (log-commitment K) x work r) (zero : r .number ≡ 0) where
+  pub exact-at-K : Exact 1 2 35 (log-commitment K) x (length work) first-asked r
+  exact-at-K = sound first-asked zero
+
+  pub run-at-K : (a : Accepted) → run 1 2 35 (log-commitment K) x (length work) ≡ ok a → exact-at-K .run-of ≡ a
+  run-at-K a e = ok-inj (sym (exact-at-K .ran) ∙ e)
+
+  module _ (none : NoCollision (log-hashed K) (hashed-in-check (trace-of backward) (exact-at-K .run-of))) where
+    faithful-at-K : Faithful (log-header K) (graph K) first-question x (exact-at-K .run-of)
+    unfolding first-asked asked-of-K log-hashed
+    faithful-at-K = faithful-unless (exact-at-K .demand-3)
+      where
+        faithful-unless : Faithful (log-header K) (graph K) first-question x (exact-at-K .run-of) ⊎ Escape (log-header K) (graph K) (trace-of backward) (exact-at-K .run-of)
+            → Faithful (log-header K) (graph K) first-question x (exact-at-K .run-of)
+        faithful-unless (inl f) = f
+        faithful-unless (inr (strings c)) = absurd (c .differ (none (c .x) (c .y) (c .x-built) (c .y-checked) (c .one-hash)))
+
+    pub sound-at-K : r ≡ found-30
+    sound-at-K = exact-at-K .returned ∙ found-numbers _ (faithful-at-K .the-verdict)
+
+    pub sound-at-K-by-paths : r ≡ found-30
+    sound-at-K-by-paths = exact-at-K .returned ∙ found-numbers _ (by-paths-alone _ (faithful-at-K .by-paths))
 
 -- no other result meets it
 pub other-incomplete : (work : Bytes) → 384 ≤ length work → Complete 1 2 35 (log-commitment K) (log-answer K first-question) work (record { number = 18; position = 0; verdict = 0; time = 0; count = 0 }) → ⊥

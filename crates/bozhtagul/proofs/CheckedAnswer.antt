@@ -116,6 +116,8 @@ module _ (direction s t : ℕ) (commitment x work : Bytes) (r : Checked) (e : r 
   pub complete-of : Complete direction s t commitment x work r
   complete-of a is room =
       record {
+        verdict = true-verdict (graph (a .records)) (a .q);
+        by-function = refl;
         by-paths = true-verdict-holds (graph (a .records)) (well-formed (a .log) (a .records) (a .sound)) (a .q);
         returned = e ∙ ap checked (defined-accepted direction s t commitment x work a is room);
       }

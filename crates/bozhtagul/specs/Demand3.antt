@@ -8,7 +8,7 @@ use Rattle.model.specs.Numbers.{Bytes}
 use Rattle.model.specs.Result.{ok}
 use Rattle.model.specs.Log.{Record}
 use Rattle.model.specs.Graph.{VersionNode, graph}
-use Rattle.model.specs.Question.{Question, question, count}
+use Rattle.model.specs.Question.{Question, question, Verdict, count}
 use Rattle.model.specs.Answer.{log-header, log-commitment, log-answer}
 use Rattle.model.specs.CheckRows.{work-width, Accepted, run}
 use Rattle.model.specs.Exact.{TrueVerdict, true-verdict, Escape, Faithful, SoundLog}
@@ -42,8 +42,10 @@ Sound direction s t commitment x work r =
 
 -- accepted with the true verdict, which is said by paths, and as the function
 pub record Accepts (ns : List VersionNode) (q : Question) (r : Checked) : Type 0 where
-  pub by-paths : TrueVerdict ns q (true-verdict ns q)
-  pub returned : r ≡ checked (ok (true-verdict ns q))
+  pub verdict : Verdict
+  pub by-paths : TrueVerdict ns q verdict
+  pub by-function : verdict ≡ true-verdict ns q
+  pub returned : r ≡ checked (ok verdict)
 
 -- second half: "the defined answer, checked against the log's commitment with enough work area, is accepted with the true verdict"
 abbrev pub Complete : (direction s t : ℕ) (commitment x work : Bytes) → Checked → Type 0
