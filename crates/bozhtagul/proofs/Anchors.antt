@@ -1,6 +1,5 @@
 -- The hypotheses of demand 3's two clauses have instances, and each clause says something there: at Log K. Assumes nothing.
 use mathlib.Core.Path.{_≡_, refl, sym, ap, _∙_}
-use mathlib.Core.Logic.{_⊎_, inl, inr}
 use Prim.Native.Nat.{ℕ, _≤_}
 use native.Mathlib.Omega.{arith}
 use lib.ListN.{length}
@@ -10,12 +9,12 @@ use Rattle.model.specs.Graph.{graph}
 use Rattle.model.specs.Question.{backward, trace-of, Question, question, Verdict, count}
 use Rattle.model.specs.Answer.{log-header, log-commitment, log-answer, log-hashed}
 use Rattle.model.specs.CheckRows.{Accepted, run, hashed-in-check}
-use Rattle.model.specs.Exact.{sought-from, any-version, verdict-at, TrueVerdict, true-verdict, Escape, strings, Faithful}
+use Rattle.model.specs.Exact.{sought-from, any-version, verdict-at, TrueVerdict, true-verdict, Faithful}
 use Rattle.model.proofs.Walk.{asked}
 use Rattle.model.proofs.Outcomes.{ok-inj}
 use Rattle.model.proofs.LogGraph.{well-formed}
 use Rattle.model.proofs.Verdicts.{true-verdict-only}
-use Rattle.model.proofs.Anchors.{NoCollision}
+use Rattle.model.proofs.Anchors.{NoCollision, no-escape}
 use Rattle.model.proofs.LogK.{computed, log-bytes, K, K-sound}
 use Rattle.bozhtagul.specs.declared.Checked.{Checked}
 use Rattle.bozhtagul.specs.Results.{checked}
@@ -72,12 +71,7 @@ module _ (x work : Bytes) (r : Checked) (sound : Sound 1 2 35 (log-commitment K)
   module _ (none : NoCollision (log-hashed K) (hashed-in-check (trace-of backward) (exact-at-K .run-of))) where
     faithful-at-K : Faithful (log-header K) (graph K) first-question x (exact-at-K .run-of)
     unfolding first-asked asked-of-K log-hashed
-    faithful-at-K = faithful-unless (exact-at-K .demand-3)
-      where
-        faithful-unless : Faithful (log-header K) (graph K) first-question x (exact-at-K .run-of) ⊎ Escape (log-header K) (graph K) (trace-of backward) (exact-at-K .run-of)
-            → Faithful (log-header K) (graph K) first-question x (exact-at-K .run-of)
-        faithful-unless (inl f) = f
-        faithful-unless (inr (strings c)) = absurd (c .differ (none (c .x) (c .y) (c .x-built) (c .y-checked) (c .one-hash)))
+    faithful-at-K = no-escape none (exact-at-K .demand-3)
 
     pub sound-at-K : r ≡ found-30
     sound-at-K = exact-at-K .returned ∙ found-numbers _ (faithful-at-K .the-verdict)

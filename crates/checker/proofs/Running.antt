@@ -4,7 +4,7 @@ use mathlib.Core.List.{List, []}
 use Prim.Native.Nat.{ℕ, _+_, _-_, _≤_, _<_}
 use native.Mathlib.Omega.{arith}
 use borrow.Author.Tests.{eq-eqb, ne-eqb}
-use lib.ListN.{length, take, drop, length-drop, replicate}
+use lib.ListN.{length, take, drop, length-drop}
 use Rattle.fields.specs.Fields.{Octets, part}
 use Rattle.fields.proofs.Places.{octets-drop}
 use Rattle.model.specs.Numbers.{Bytes}
@@ -13,7 +13,7 @@ use Rattle.model.specs.Accumulator.{Leaf}
 use Rattle.model.specs.Question as question
 use Rattle.model.specs.Question.{at-or-before, Question, question, SearchEnd, Verdict}
 use Rattle.model.specs.CheckRows.{leaf-in, CheckedProof, stopped, check-proof, read-trace, trace-rows, Accepted, end-here, with-trace, check-end, run-under, run}
-use Rattle.model.specs.Calls.{cleared, verdict-of, records-part, records-call}
+use Rattle.model.specs.Calls.{verdict-of, records-part, records-call}
 use Rattle.model.proofs.Outcomes.{bind-eq, bind-refused}
 use Rattle.model.proofs.TraceReading as reading
 use Rattle.question.specs.declared.TimeKey.{TimeKey}
@@ -255,10 +255,6 @@ module _ (direction s t : ℕ) (commitment answer : Bytes) (size : ℕ) (r : Run
   known-run part e f = subst (λ (m : Result Accepted). RunIs answer m r) (sym (bind-eq (question direction s t) _ (asking part s t) e)) f
 
 -- ---- the calls
-
-pub area-cleared : (work w1 w2 : Bytes) → length w1 ≡ length work → w2 ≡ replicate (length w1) 0 → w2 ≡ cleared work
-unfolding cleared
-area-cleared work w1 w2 e z = z ∙ ap (λ (n : ℕ). replicate n 0) e
 
 part-of : (answer : Bytes) (m : Result Accepted) → part answer (boundsOf m .start) (boundsOf m .length) ≡ records-part answer m
 unfolding boundsOf records-part part

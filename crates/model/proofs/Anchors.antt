@@ -10,9 +10,9 @@ use Rattle.fields.specs.Fields.{Octets}
 use Rattle.model.specs.Result.{ok, refuse, _>>=_}
 use Rattle.model.specs.Numbers.{Bytes, H}
 use Rattle.model.specs.Log.{Record}
-use Rattle.model.specs.Graph.{InEdge, temporal, dependency, node-at, graph, NamedEdge, CausalPath, stay, step, edges-on}
+use Rattle.model.specs.Graph.{VersionNode, InEdge, temporal, dependency, node-at, graph, NamedEdge, CausalPath, stay, step, edges-on}
 use Rattle.model.specs.Digest.{letter-I, letter-O, links-string, incoming-string, outgoing-string, incoming-strings, outgoing-strings, incoming-string-of, outgoing-string-of}
-use Rattle.model.specs.Accumulator.{letter-L, letter-N, letter-G, letter-P, letter-R, strings-of, hashed-in-building}
+use Rattle.model.specs.Accumulator.{letter-L, letter-N, letter-G, letter-P, letter-R, Header, strings-of, hashed-in-building}
 use Rattle.model.specs.Question.{backward, trace-of, Question, question, Verdict, count}
 use Rattle.model.specs.Answer.{log-header, log-commitment, log-answer, log-hashed}
 use Rattle.model.specs.CheckRows.{enough, Accepted, run, path-strings, trace-strings, hashed-in-check}
@@ -40,16 +40,18 @@ collision-real c = (c .x, c .y, c .differ, c .one-hash)
 abbrev pub NoCollision : List Bytes → List Bytes → Type 0
 NoCollision built checked = (y z : Bytes) → y among built → z among checked → H y ≡ H z → y ≡ z
 
--- where that is so, an accepted answer is faithful
+-- where that is so, the escape clause gives nothing
+pub no-escape : {h : Header} {ns : List VersionNode} {q : Question} {x : Bytes} {a : Accepted} → NoCollision (hashed-in-building h ns) (hashed-in-check (q .part) a)
+    → Faithful h ns q x a ⊎ Escape h ns (q .part) a → Faithful h ns q x a
+no-escape none (inl f) = f
+no-escape none (inr (strings c)) = absurd (c .differ (none (c .x) (c .y) (c .x-built) (c .y-checked) (c .one-hash)))
+
+-- and an accepted answer is faithful
 pub no-collision : {log : Bytes} {rs : List Record} → SoundLog log rs → (direction s t : ℕ) (q : Question) → question direction s t ≡ ok q
     → (x : Bytes) → Octets x → (work : ℕ) (a : Accepted) → run direction s t (log-commitment rs) x work ≡ ok a
     → NoCollision (log-hashed rs) (hashed-in-check (q .part) a) → Faithful (log-header rs) (graph rs) q x a
 unfolding log-hashed
-no-collision {log} {rs} l direction s t q e x o work a r one = go (soundness log rs l direction s t q e x o work a r)
-  where
-    go : Faithful (log-header rs) (graph rs) q x a ⊎ Escape (log-header rs) (graph rs) (q .part) a → Faithful (log-header rs) (graph rs) q x a
-    go (inl f) = f
-    go (inr (strings c)) = absurd (c .differ (one (c .x) (c .y) (c .x-built) (c .y-checked) (c .one-hash)))
+no-collision {log} {rs} l direction s t q e x o work a r none = no-escape none (soundness log rs l direction s t q e x o work a r)
 
 -- ---- the strings hashed, on K
 

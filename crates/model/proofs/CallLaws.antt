@@ -1,10 +1,10 @@
 -- The lent memory after a call: its lengths stay, a refusal leaves the output as it was, an accepted call writes only its first bytes.
 -- Assumes nothing.
-use mathlib.Core.Path.{_≡_, refl, sym, subst}
+use mathlib.Core.Path.{_≡_, refl, sym, ap, _∙_, subst}
 use Prim.Native.Nat.{ℕ, _+_, _≤_}
 use native.Mathlib.Omega.{arith}
 use mathlib.Core.List.{_++_}
-use lib.ListN.{length, drop, length-replicate}
+use lib.ListN.{length, drop, replicate, length-replicate}
 use lib.Dec.{leb→le}
 use Rattle.fields.specs.Fields.{written}
 use Rattle.fields.proofs.Places.{length-written}
@@ -16,6 +16,11 @@ use Rattle.model.proofs.Outcomes.{ok-inj, past}
 pub cleared-length : (work : Bytes) → length (cleared work) ≡ length work
 unfolding cleared
 cleared-length work = length-replicate (length work) 0
+
+-- a work area of the same length, zeroed, is the work area cleared
+pub area-cleared : (work w1 w2 : Bytes) → length w1 ≡ length work → w2 ≡ replicate (length w1) 0 → w2 ≡ cleared work
+unfolding cleared
+area-cleared work w1 w2 e z = z ∙ ap (λ (n : ℕ). replicate n 0) e
 
 -- what row 13 lets pass fits
 pub fitting-fits : (out z y : Bytes) → fitting out z ≡ ok y → (y ≡ z) × (length y ≤ length out)

@@ -1,3 +1,3 @@
 -- What the proofs of the functions cite.
-mod Ways
+pub mod Ways
 pub mod Directions

@@ -15,9 +15,6 @@ use Rattle.model.specs.Numbers.{Bytes}
 use Rattle.model.specs.Graph.{InEdge, temporal, dependency}
 use Rattle.model.specs.Question as question
 use Rattle.model.specs.Trace.{trace-letter, entry-letter, one-edge-string, record-string-by, trace, trace-string}
-use Rattle.question.specs.declared.Way.{Way}
-use Rattle.question.specs.declared.Way.the-variants.{Backward, Forward}
-use Rattle.question.specs.Ways.{wayOf}
 use Rattle.graph.specs.Table.{node-in, nodes-in}
 use Rattle.graph.specs.Links.{name-string, Starts}
 use Rattle.graph.proofs.Slots.{Wrote, wrote, and-behind}
@@ -29,16 +26,6 @@ use Rattle.marks.proofs.Edges.{previous-stands, source-stands}
 use Rattle.trace_writer.proofs.Edges.{inside-there}
 use Rattle.trace_writer.proofs.Searching.{starts-at}
 use Rattle.trace_writer.proofs.Records.{width, some-edges, Tested, tested, edges-are, record-width-is, slot-marked, slot-unmarked, trace-is}
-
--- ---- letters of records with no position
-
-pub letter-E : (way : Way) → way ≡ Backward → 69 ≡ entry-letter (wayOf way)
-unfolding wayOf
-letter-E way e = sym (ap (λ (x : Way). entry-letter (wayOf x)) e)
-
-pub letter-S : (way : Way) → way ≡ Forward → 83 ≡ entry-letter (wayOf way)
-unfolding wayOf
-letter-S way e = sym (ap (λ (x : Way). entry-letter (wayOf x)) e)
 
 -- ---- a record by its parts
 

@@ -1,7 +1,7 @@
 use borrow.Author.Needs.{needs}
 use native.Mathlib.Omega.{arith}
 use denote.Ref.{now}
-use Rattle.checker.proofs.Running.{area-cleared}
+use Rattle.model.proofs.CallLaws.{area-cleared}
 use Rattle.checker.proofs.run_and_clear.Statement.{statement}
 use Rattle.checker.proofs.run_and_clear.Tie as tie
 
