@@ -1,9 +1,10 @@
 // A caller that knows nothing of what it hands over: each exported call with any arguments. This crate is proved only as long as no
-// exported call requires anything of them.
+// exported call requires anything of them, and as long as the bounds that `bozhtagul_records` returns lie inside the answer.
 use bozhtagul::Checked;
 use bozhtagul::Outcome;
-use bozhtagul::Part;
 use bozhtagul::Written;
+ghost use mathlib.Core.Path.{_≡_};
+ghost use Rattle.model.specs.Calls.{records-call};
 
 pub fn hash(message: &[u8], out: &mut [u8]) -> Outcome {
     bozhtagul::bozhtagul_hash(message, out)
@@ -43,13 +44,18 @@ pub fn check(
     bozhtagul::bozhtagul_check(direction, entity, time, commitment, answer, work)
 }
 
-pub fn records(
+// The checked records themselves, by the bounds alone.
+pub fn records<'a>(
     direction: u8,
     entity: u32,
     time: u64,
     commitment: &[u8],
-    answer: &[u8],
+    answer: &'a [u8],
     work: &mut [u8],
-) -> Part {
-    bozhtagul::bozhtagul_records(direction, entity, time, commitment, answer, work)
+) -> &'a [u8]
+    ensures { λ r. ⌜ now r ≡ records-call direction entity time (now (commitment .entry)) (now (answer .entry)) (now (work .entry)) .result ⌝ }
+{
+    let b = bozhtagul::bozhtagul_records(direction, entity, time, commitment, answer, work);
+    let start = b.start as usize;
+    &answer[start..start + b.length as usize]
 }
