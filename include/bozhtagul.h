@@ -15,15 +15,19 @@
 #include <stddef.h>
 #include <stdint.h>
 
-/* A question's direction. Any other number is row 11. */
+/* A question's direction: of the last version at or before its time, and of the first one at or after it. Any other number is row 11. */
 #define BOZHTAGUL_VERSION_ONLY 0
 #define BOZHTAGUL_BACKWARD 1
 #define BOZHTAGUL_FORWARD 2
+#define BOZHTAGUL_VERSION_ONLY_AFTER 3
+#define BOZHTAGUL_BACKWARD_AFTER 4
+#define BOZHTAGUL_FORWARD_AFTER 5
 
 /* A verdict; 0 where the check refuses. */
 #define BOZHTAGUL_NO_ENTITY 1
 #define BOZHTAGUL_NOT_YET 2
 #define BOZHTAGUL_FOUND 3
+#define BOZHTAGUL_NONE_SO_LATE 4
 
 /* Bytes of a digest and of a commitment; bytes of work area for a record; the most records of a log and of a trace. */
 #define BOZHTAGUL_DIGEST 32
@@ -46,7 +50,8 @@ struct bozhtagul_written {
     uint64_t length;
 };
 
-/* A found version has its time, and its trace the count of records, 0 without a trace. */
+/* A found version has its time, and its trace the count of records, 0 without a trace. With not yet the time is that of the entity's first
+ * version, and with none so late that of its last. */
 struct bozhtagul_checked {
     uint64_t number;
     uint64_t position;

@@ -16,10 +16,17 @@ static const uint8_t log_k[] = {
     2, 0, 0, 0, 2, 0, 0, 0, 1, 8, 0, 0, 0, 0, 0, 0, 0, 40,
 };
 
-/* What led to the version of entity 2 that stood at time 35? */
-static const uint8_t direction = BOZHTAGUL_BACKWARD;
-static const uint32_t entity = 2;
-static const uint64_t moment = 35;
+struct question {
+    const char *words;
+    uint8_t direction;
+    uint32_t entity;
+    uint64_t time;
+};
+
+static const struct question questions[] = {
+    {"what led to the version of 2 that stood at 35", BOZHTAGUL_BACKWARD, 2, 35},
+    {"what came of the first version of 2 at or after 31", BOZHTAGUL_FORWARD_AFTER, 2, 31},
+};
 
 /* Ends the program if a call was turned away. */
 static void accept(const char *call, uint64_t number, uint64_t position) {
@@ -64,17 +71,34 @@ static size_t show(const uint8_t *record) {
     return width;
 }
 
+/* Prints a verdict. */
+static void tell(struct bozhtagul_checked checked) {
+    switch (checked.verdict) {
+    case BOZHTAGUL_NO_ENTITY:
+        printf("no entity\n");
+        break;
+    case BOZHTAGUL_NOT_YET:
+        printf("not yet: the first version is at %" PRIu64 "\n", checked.time);
+        break;
+    case BOZHTAGUL_NONE_SO_LATE:
+        printf("none so late: the last version is at %" PRIu64 "\n", checked.time);
+        break;
+    default:
+        printf("found at %" PRIu64 ", %" PRIu64 " records\n", checked.time, checked.count);
+    }
+}
+
 /* The viewer, which has the commitment and the answer, and no log. */
-static void view(const uint8_t *commitment, const uint8_t *answer, size_t length) {
+static void view(const struct question *asked, const uint8_t *commitment, const uint8_t *answer, size_t length) {
     /* no answer of this length has more records: the shortest has 13 bytes */
     size_t work_len = BOZHTAGUL_WORK * (length / 13);
     uint8_t *work = memory(work_len);
-    struct bozhtagul_checked checked =
-        bozhtagul_check(direction, entity, moment, commitment, BOZHTAGUL_DIGEST, answer, length, work, work_len);
+    struct bozhtagul_checked checked = bozhtagul_check(
+        asked->direction, asked->entity, asked->time, commitment, BOZHTAGUL_DIGEST, answer, length, work, work_len);
     accept("check", checked.number, checked.position);
-    printf("verdict %" PRIu64 ", time %" PRIu64 ", records %" PRIu64 "\n", checked.verdict, checked.time, checked.count);
-    struct bozhtagul_part part =
-        bozhtagul_records(direction, entity, moment, commitment, BOZHTAGUL_DIGEST, answer, length, work, work_len);
+    tell(checked);
+    struct bozhtagul_part part = bozhtagul_records(
+        asked->direction, asked->entity, asked->time, commitment, BOZHTAGUL_DIGEST, answer, length, work, work_len);
     for (size_t place = part.start; place < part.start + part.length;) {
         place += show(answer + place);
     }
@@ -94,12 +118,14 @@ int main(void) {
     /* the host answers */
     size_t most = BOZHTAGUL_MOST_ANSWER(read.length);
     uint8_t *answer = memory(most);
-    struct bozhtagul_written answered =
-        bozhtagul_answer(direction, entity, moment, log_k, sizeof log_k, work, work_len, answer, most);
-    accept("answer", answered.number, answered.position);
-    printf("answer of %" PRIu64 " bytes\n", answered.length);
-
-    view(commitment, answer, answered.length);
+    for (size_t place = 0; place < sizeof questions / sizeof questions[0]; place++) {
+        const struct question *asked = &questions[place];
+        struct bozhtagul_written answered = bozhtagul_answer(
+            asked->direction, asked->entity, asked->time, log_k, sizeof log_k, work, work_len, answer, most);
+        accept("answer", answered.number, answered.position);
+        printf("%s? answer of %" PRIu64 " bytes\n", asked->words, answered.length);
+        view(asked, commitment, answer, answered.length);
+    }
     free(answer);
     free(work);
     return 0;

@@ -1,16 +1,15 @@
 -- The hypotheses of demand 3's two clauses have instances, and each clause says something there: at Log K. Assumes nothing.
 use mathlib.Core.Path.{_≡_, refl, sym, ap, _∙_}
-use Prim.Native.Nat.{ℕ, _≤_}
+use Prim.Native.Nat.{ℕ, _*_, _≤_}
 use native.Mathlib.Omega.{arith}
 use lib.ListN.{length}
 use Rattle.model.specs.Result.{ok}
 use Rattle.model.specs.Numbers.{Bytes}
 use Rattle.model.specs.Graph.{graph}
-use Rattle.model.specs.Question.{backward, trace-of, Question, question, Verdict, count}
+use Rattle.model.specs.Question.{at-or-before, at-or-after, backward, version-only, trace-of, Question, asked, question, not-yet, none-so-late, Verdict, count}
 use Rattle.model.specs.Answer.{log-header, log-commitment, log-answer, log-hashed}
 use Rattle.model.specs.CheckRows.{Accepted, run, hashed-in-check}
-use Rattle.model.specs.Exact.{sought-from, any-version, verdict-at, TrueVerdict, true-verdict, Faithful}
-use Rattle.model.proofs.Walk.{asked}
+use Rattle.model.specs.Exact.{nearest-from, sought, outermost, verdict-unmet, verdict-at, TrueVerdict, true-verdict, Faithful}
 use Rattle.model.proofs.Outcomes.{ok-inj}
 use Rattle.model.proofs.LogGraph.{well-formed}
 use Rattle.model.proofs.Verdicts.{true-verdict-only}
@@ -25,7 +24,7 @@ pub asked-of-K : (direction s t : ℕ) (q : Question) → question direction s t
 asked-of-K direction s t q known = record { log = log-bytes K; records = K; sound = K-sound; q = q; known = known; of-log = refl }
 
 abbrev pub first-question : Question
-first-question = asked (trace-of backward) 2 35
+first-question = asked at-or-before (trace-of backward) 2 35
 
 pub first-asked : Asked 1 2 35 (log-commitment K)
 unfolding question
@@ -36,7 +35,7 @@ abbrev pub found-30 : Checked
 found-30 = record { number = 0; position = 0; verdict = 3; time = 30; count = 3 }
 
 first-verdict : true-verdict (graph K) first-question ≡ Verdict.found 30 3
-unfolding computed sought-from any-version verdict-at true-verdict
+unfolding computed nearest-from sought verdict-at true-verdict
 first-verdict = refl
 
 -- its numbers
@@ -82,3 +81,29 @@ module _ (x work : Bytes) (r : Checked) (sound : Sound 1 2 35 (log-commitment K)
 -- no other result meets it
 pub other-incomplete : (work : Bytes) → 384 ≤ length work → Complete 1 2 35 (log-commitment K) (log-answer K first-question) work (record { number = 18; position = 0; verdict = 0; time = 0; count = 0 }) → ⊥
 other-incomplete work room complete = let e = ap (λ (c : Checked). c .number) (complete-at-K work _ room complete) in omega arith
+
+-- the same of any known question, and what it says by the other relation and where no version is found
+complete-of-K : (direction s t : ℕ) (q : Question) → question direction s t ≡ ok q → (v : Verdict) → true-verdict (graph K) q ≡ v
+    → (work : Bytes) (r : Checked) → 128 * count v ≤ length work → Complete direction s t (log-commitment K) (log-answer K q) work r → r ≡ checked (ok v)
+unfolding asked-of-K
+complete-of-K direction s t q known v is work r room complete =
+    let a = complete (asked-of-K direction s t q known) refl (omega (arith, room, ap count is)) in
+    a .returned ∙ ap (λ (v : Verdict). checked (ok v)) (a .by-function ∙ is)
+
+-- "for the version with the least time at or after t"
+pub ahead-at-K : (work : Bytes) (r : Checked) → 384 ≤ length work → Complete 4 2 21 (log-commitment K) (log-answer K (asked at-or-after (trace-of backward) 2 21)) work r
+    → r ≡ found-30
+unfolding question computed nearest-from sought verdict-at true-verdict checked
+ahead-at-K work r room = complete-of-K 4 2 21 (asked at-or-after (trace-of backward) 2 21) refl (Verdict.found 30 3) refl work r room
+
+-- "Not yet now also gives the entity's first time"
+pub not-yet-at-K : (work : Bytes) (r : Checked) → Complete 0 2 19 (log-commitment K) (log-answer K (asked at-or-before version-only 2 19)) work r
+    → r ≡ record { number = 0; position = 0; verdict = 2; time = 20; count = 0 }
+unfolding question computed nearest-from sought outermost verdict-unmet verdict-at true-verdict checked
+not-yet-at-K work r = complete-of-K 0 2 19 (asked at-or-before version-only 2 19) refl (Verdict.not-found (not-yet 20)) refl work r (omega arith)
+
+-- "and none so late its last"
+pub none-so-late-at-K : (work : Bytes) (r : Checked) → Complete 3 2 31 (log-commitment K) (log-answer K (asked at-or-after version-only 2 31)) work r
+    → r ≡ record { number = 0; position = 0; verdict = 4; time = 30; count = 0 }
+unfolding question computed nearest-from sought outermost verdict-unmet verdict-at true-verdict checked
+none-so-late-at-K work r = complete-of-K 3 2 31 (asked at-or-after version-only 2 31) refl (Verdict.not-found (none-so-late 30)) refl work r (omega arith)

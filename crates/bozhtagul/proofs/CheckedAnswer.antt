@@ -8,7 +8,7 @@ use Rattle.fields.specs.Fields.{Octets, part}
 use Rattle.model.specs.Numbers.{Bytes}
 use Rattle.model.specs.Result.{Result, ok, refuse, _>>=_}
 use Rattle.model.specs.Graph.{graph}
-use Rattle.model.specs.Question.{Verdict, count}
+use Rattle.model.specs.Question.{Stop, no-entity, not-yet, none-so-late, Verdict, count}
 use Rattle.model.specs.Answer.{log-answer}
 use Rattle.model.specs.CheckRows.{enough, Accepted as Run, run}
 use Rattle.model.specs.Calls.{verdict-of, check-call, records-part, records-call}
@@ -19,10 +19,14 @@ use Rattle.model.proofs.Verdicts.{true-verdict-holds}
 use Rattle.model.proofs.Soundness.{soundness}
 use Rattle.model.proofs.CheckCall.{check-complete}
 use Rattle.model.proofs.RowNumbers.{number-above, run-numbered}
+use Rattle.question.specs.declared.TimeKey.{TimeKey}
+use Rattle.proof_reader.specs.declared.Stop as code
+use Rattle.proof_reader.specs.declared.Stop.the-variants.{NoEntity, NotYet, NoneSoLate}
+use Rattle.proof_reader.specs.Walks.{stopOf}
 use Rattle.checker.specs.declared.Checking.{Checking}
 use Rattle.checker.specs.declared.Checking.the-variants.{Accepted, Refused}
 use Rattle.checker.specs.declared.Verdict as declared
-use Rattle.checker.specs.declared.Verdict.the-variants.{NoEntity, NotYet, Found}
+use Rattle.checker.specs.declared.Verdict.the-variants.{NotFound, Found}
 use Rattle.checker.specs.declared.Bounds.{Bounds}
 use Rattle.checker.specs.Runs.{verdictOf, checkingOf, boundsOf}
 use Rattle.bozhtagul.specs.declared.Checked.{Checked}
@@ -32,19 +36,34 @@ use Rattle.bozhtagul.specs.Demand3.{Asked, Exact, Sound, Complete}
 
 -- ---- plain numbers
 
-unfoldable pub verdict-numbers : declared.Verdict → Checked
-verdict-numbers NoEntity = record { number = 0; position = 0; verdict = 1; time = 0; count = 0 }
-verdict-numbers NotYet = record { number = 0; position = 0; verdict = 2; time = 0; count = 0 }
-verdict-numbers (Found t n) = record { number = 0; position = 0; verdict = 3; time = t .0; count = n }
+unfoldable pub stop-numbers : code.Stop → Checked
+stop-numbers NoEntity = record { number = 0; position = 0; verdict = 1; time = 0; count = 0 }
+stop-numbers (NotYet first) = record { number = 0; position = 0; verdict = 2; time = first .0; count = 0 }
+stop-numbers (NoneSoLate last) = record { number = 0; position = 0; verdict = 4; time = last .0; count = 0 }
 
-by-verdict : (v : Verdict) → verdict-numbers (verdictOf v) ≡ checked (ok v)
-unfolding verdict-numbers verdictOf checked
-by-verdict Verdict.no-entity = refl
-by-verdict Verdict.not-yet = refl
-by-verdict (Verdict.found t n) = refl
+by-stop : (s : Stop) → stop-numbers (stopOf s) ≡ checked (ok (Verdict.not-found s))
+unfolding stop-numbers stopOf checked
+by-stop no-entity = refl
+by-stop (not-yet first) = refl
+by-stop (none-so-late last) = refl
 
-pub verdict-agrees : (a b : declared.Verdict) → a ≡ b → (v : Verdict) → a ≡ verdictOf v → verdict-numbers b ≡ checked (ok v)
-verdict-agrees a b q v e = ap verdict-numbers (sym q ∙ e) ∙ by-verdict v
+pub stop-agrees : (a b : code.Stop) → a ≡ b → (s : Stop) → a ≡ stopOf s → stop-numbers b ≡ checked (ok (Verdict.not-found s))
+stop-agrees a b q s e = ap stop-numbers (sym q ∙ e) ∙ by-stop s
+
+-- of a verdict without a version, what holds of the stop's numbers
+pub where-not-found : (P : Verdict → Type 0) (w : declared.Verdict) (a : code.Stop) → w ≡ NotFound a → ((s : Stop) → a ≡ stopOf s → P (Verdict.not-found s))
+    → (v : Verdict) → w ≡ verdictOf v → P v
+unfolding verdictOf
+where-not-found P w a q f (Verdict.not-found s) e = f s cc
+where-not-found P w a q f (Verdict.found t n) e = absurd (let z : _≡_ {A = ℕ} 0 1 = cc in omega arith)
+
+pub found-agrees : (w : declared.Verdict) (r : Checked) (time : TimeKey) (n : ℕ) → w ≡ Found time n → r ≡ record { number = 0; position = 0; verdict = 3; time = time .0; count = n }
+    → (v : Verdict) → w ≡ verdictOf v → r ≡ checked (ok v)
+unfolding verdictOf checked
+found-agrees w r time n q f (Verdict.not-found s) e = absurd (let z : _≡_ {A = ℕ} 0 1 = cc in omega arith)
+found-agrees w r time n q f (Verdict.found t m) e =
+    let same : (time ≡ record { 0 = t }) × (n ≡ m) = (cc, cc) in
+    f ∙ ap₂ (λ (x : TimeKey) (y : ℕ). record { number = 0; position = 0; verdict = 3; time = x .0; count = y }) (same .0) (same .1)
 
 -- by what the check answered
 module _ (k : Checking) (r : Checked) where

@@ -3,7 +3,7 @@ use Prim.Native.Nat.{ℕ}
 use lib.ListN.{length}
 use Rattle.model.specs.Numbers.{Bytes}
 use Rattle.model.specs.Result.{Result, ok, refuse, _>>=_}
-use Rattle.model.specs.Question.{Verdict}
+use Rattle.model.specs.Question.{no-entity, not-yet, none-so-late, Verdict}
 use Rattle.model.specs.CheckRows.{Accepted}
 use Rattle.bozhtagul.specs.declared.Outcome.{Outcome}
 use Rattle.bozhtagul.specs.declared.Written.{Written}
@@ -26,10 +26,11 @@ written-of m = written (m >>= λ y. ok (length y))
 unfoldable pub outcome-of : Result Bytes → Outcome
 outcome-of m = outcome (m >>= λ _. ok tt)
 
--- the verdict: 1 no entity, 2 not yet, 3 found; 0 where the check refuses
+-- the verdict: 1 no entity, 2 not yet, 3 found, 4 none so late; 0 where the check refuses
 unfoldable pub checked : Result Verdict → Checked
-checked (ok Verdict.no-entity) = record { number = 0; position = 0; verdict = 1; time = 0; count = 0 }
-checked (ok Verdict.not-yet) = record { number = 0; position = 0; verdict = 2; time = 0; count = 0 }
+checked (ok (Verdict.not-found no-entity)) = record { number = 0; position = 0; verdict = 1; time = 0; count = 0 }
+checked (ok (Verdict.not-found (not-yet first))) = record { number = 0; position = 0; verdict = 2; time = first; count = 0 }
+checked (ok (Verdict.not-found (none-so-late last))) = record { number = 0; position = 0; verdict = 4; time = last; count = 0 }
 checked (ok (Verdict.found t n)) = record { number = 0; position = 0; verdict = 3; time = t; count = n }
 checked (refuse n p) = record { number = n; position = p; verdict = 0; time = 0; count = 0 }
 

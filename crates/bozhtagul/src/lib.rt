@@ -3,6 +3,7 @@ use checker::Checking;
 use checker::Verdict;
 use log::Reading;
 use outcome::Writing;
+use proof_reader::Stop;
 use question::EntityKey;
 use question::TimeKey;
 use strings::DIGEST_WIDTH;
@@ -16,6 +17,7 @@ ghost use Rattle.model.specs.CheckRows.{run};
 ghost use Rattle.model.specs.Calls.{hash-call, log-call, listing-call, commitment-call, answer-call, check-call, records-call};
 ghost use Rattle.model.specs.Question as model;
 ghost use Rattle.outcome.specs.Outcomes.{given};
+ghost use Rattle.proof_reader.specs.Walks.{stopOf};
 ghost use Rattle.checker.specs.Runs.{verdictOf};
 ghost use Rattle.bozhtagul.specs.Results.{outcome, written, outcome-of, written-of, checked, bounds};
 ghost use Rattle.bozhtagul.specs.Demand3.{Sound, Complete};
@@ -35,7 +37,8 @@ pub struct Written {
     pub length: u64,
 }
 
-// The same, and the verdict: 0 none, 1 no entity, 2 not yet, 3 found, with the version's time and the number of the trace's records.
+// The same, and the verdict: 0 none; 1 no entity; 2 not yet, with the time of the entity's first version; 3 found, with the version's time
+// and the number of the trace's records; 4 none so late, with the time of the entity's last version.
 #[repr(C)]
 pub struct Checked {
     pub number: u64,
@@ -103,13 +106,23 @@ fn as_outcome(writing: Writing) -> Outcome
     }
 }
 
-// A verdict as plain numbers.
+// A verdict as plain numbers, where no version is found, ...
+fn as_stopped(stop: Stop) -> Checked
+    ensures { λ r. ⌜ ((s : model.Stop) → stop ≡ stopOf s → r ≡ checked (ok (model.Verdict.not-found s))) ⌝ }
+{
+    match stop {
+        Stop::NoEntity => row_or_verdict(0, 0, 1, 0, 0),
+        Stop::NotYet { first } => row_or_verdict(0, 0, 2, first.0, 0),
+        Stop::NoneSoLate { last } => row_or_verdict(0, 0, 4, last.0, 0),
+    }
+}
+
+// ... and any verdict.
 fn as_checked(verdict: Verdict) -> Checked
     ensures { λ r. ⌜ ((v : model.Verdict) → verdict ≡ verdictOf v → r ≡ checked (ok v)) ⌝ }
 {
     match verdict {
-        Verdict::NoEntity => row_or_verdict(0, 0, 1, 0, 0),
-        Verdict::NotYet => row_or_verdict(0, 0, 2, 0, 0),
+        Verdict::NotFound { stop } => as_stopped(stop),
         Verdict::Found { time, count } => row_or_verdict(0, 0, 3, time.0, count as u64),
     }
 }

@@ -11,7 +11,7 @@ use Rattle.model.specs.Numbers.{Bytes}
 use Rattle.model.specs.Result.{Result, ok, refuse, _>>=_, need}
 use Rattle.model.specs.Accumulator.{Leaf}
 use Rattle.model.specs.Question as question
-use Rattle.model.specs.Question.{at-or-before, Question, question, SearchEnd, Verdict}
+use Rattle.model.specs.Question.{question, SearchEnd, Verdict}
 use Rattle.model.specs.CheckRows.{leaf-in, CheckedProof, stopped, check-proof, read-trace, trace-rows, Accepted, end-here, with-trace, check-end, run-under, run}
 use Rattle.model.specs.Calls.{verdict-of, records-part, records-call}
 use Rattle.model.proofs.Outcomes.{bind-eq, bind-refused}
@@ -20,22 +20,24 @@ use Rattle.question.specs.declared.TimeKey.{TimeKey}
 use Rattle.question.specs.declared.Way.{Way}
 use Rattle.question.specs.declared.Part.{Part}
 use Rattle.question.specs.declared.Part.the-variants.{VersionOnly, Trace as TraceOf}
+use Rattle.question.specs.declared.Question.{Question}
 use Rattle.question.specs.Ways.{wayOf}
-use Rattle.question.specs.Directions.{partOf, asking}
+use Rattle.question.specs.Directions.{partOf, questionOf}
 use Rattle.graph.specs.Table.{nodes-in}
 use Rattle.graph.proofs.Nodes.{length-nodes}
+use Rattle.proof_reader.specs.declared.Stop.{Stop}
 use Rattle.proof_reader.specs.declared.Proof.{Proof}
-use Rattle.proof_reader.specs.declared.Proof.the-variants.{NoEntity as ToNoEntity, NotYet as ToNotYet, Found as ToLeaf, Refused as Unread}
+use Rattle.proof_reader.specs.declared.Proof.the-variants.{Stopped as ToStop, Found as ToLeaf, Refused as Unread}
 use Rattle.proof_reader.specs.Walks.{Gives, ProofIs}
 use Rattle.model.proofs.CheckSteps.{without-opened}
-use Rattle.proof_reader.proofs.Ends.{no-entity-is, not-yet-is, found-is, refused-is, run-without, end-verdict}
+use Rattle.proof_reader.proofs.Ends.{stopped-is, found-is, refused-is, run-without, end-verdict}
 use Rattle.trace_reader.specs.declared.Trace.{Trace}
 use Rattle.trace_reader.specs.declared.Trace.the-variants.{Read, Refused as TraceRefused}
 use Rattle.trace_reader.specs.Records.{TraceIs, trace-read, trace-refused}
 use Rattle.checker.specs.declared.Checking.the-variants as checking
 use Rattle.checker.specs.declared.Checking.the-variants.{Refused}
 use Rattle.checker.specs.declared.Verdict as declared
-use Rattle.checker.specs.declared.Verdict.the-variants.{NoEntity, NotYet, Found}
+use Rattle.checker.specs.declared.Verdict.the-variants.{NotFound, Found}
 use Rattle.checker.specs.declared.Bounds.{Bounds}
 use Rattle.checker.specs.declared.Run.{Run}
 use Rattle.checker.specs.declared.Rows.{Rows}
@@ -185,63 +187,57 @@ module _ (answer : Bytes) (leaf at size : ℕ) (part : Part) (r : Run) where
 -- ---- the whole run
 
 -- its proof, as it was read
-module _ (part : Part) (s t : ℕ) (commitment answer : Bytes) (p : Proof)
-    (P : (q : Question) → q .relation ≡ at-or-before → q .entity ≡ s → q .time ≡ t → ProofIs answer (check-proof 0x52 q commitment 0 (drop 0 answer)) p) where
+module _ (q : Question) (commitment answer : Bytes) (p : Proof) (P : ProofIs answer (check-proof 0x52 (questionOf q) commitment 0 (drop 0 answer)) p) where
   m : Result CheckedProof
-  m = check-proof 0x52 (asking part s t) commitment 0 answer
+  m = check-proof 0x52 (questionOf q) commitment 0 answer
 
   M : ProofIs answer m p
   unfolding m
-  M = P (asking part s t) refl refl refl
+  M = P
 
   pub leaf-inside : (leaf at : ℕ) → p ≡ ToLeaf leaf at → (leaf + 77 ≤ length answer) × (at ≤ length answer)
   leaf-inside leaf at e = let g = found-is answer m p M leaf at e in let i = g .1 .inside in (omega (arith, g .0), i)
 
-  pub no-entity-inside : (at : ℕ) → p ≡ ToNoEntity at → at ≤ length answer
-  no-entity-inside at e = no-entity-is answer m p M at e .inside
-
-  pub not-yet-inside : (at : ℕ) → p ≡ ToNotYet at → at ≤ length answer
-  not-yet-inside at e = not-yet-is answer m p M at e .inside
+  pub stop-inside : (s : Stop) (at : ℕ) → p ≡ ToStop s at → at ≤ length answer
+  stop-inside s at e = stopped-is answer m p M s at e .2 .inside
 
   module _ (size : ℕ) (r : Run) (wide : length commitment ≡ 32) where
     abbrev this-run : Result Accepted
-    this-run = run-under 0x52 (asking part s t) commitment answer size
+    this-run = run-under 0x52 (questionOf q) commitment answer size
 
-    by-proof : this-run ≡ (m >>= λ (p : CheckedProof). check-end (partOf part) size p (p .end))
+    by-proof : this-run ≡ (m >>= λ (p : CheckedProof). check-end (partOf (q .part)) size p (p .end))
     unfolding run-under m need _>>=_
     by-proof = simp (eq-eqb (length commitment) 32 wide)
 
     pub proof-refused : (x y : ℕ) → p ≡ Unread x y → r ≡ bareRun (Refused x y) → RunIs answer this-run r
-    proof-refused x y e q = bare-refused answer this-run r x y (by-proof ∙ bind-refused m _ x y (refused-is answer m p M x y e)) q
+    proof-refused x y e b = bare-refused answer this-run r x y (by-proof ∙ bind-refused m _ x y (refused-is answer m p M x y e)) b
 
     -- what follows a proof depends on its end alone
-    at-end : (e : SearchEnd Leaf) (at : ℕ) → Gives answer m e at → RunIs answer (check-end (partOf part) size (stopped e at (drop at answer)) e) r → RunIs answer this-run r
+    at-end : (e : SearchEnd Leaf) (at : ℕ) → Gives answer m e at → RunIs answer (check-end (partOf (q .part)) size (stopped e at (drop at answer)) e) r → RunIs answer this-run r
     at-end e at g i =
         record {
-          checking-is = i .checking-is ∙ ap checkingOf (sym (end-verdict answer m e at g (partOf part) size) ∙ sym (ap verdict-of by-proof));
-          bounds-are = i .bounds-are ∙ sym (same-bounds _ _ (run-without answer m e at g (partOf part) size)) ∙ sym (ap boundsOf by-proof);
+          checking-is = i .checking-is ∙ ap checkingOf (sym (end-verdict answer m e at g (partOf (q .part)) size) ∙ sym (ap verdict-of by-proof));
+          bounds-are = i .bounds-are ∙ sym (same-bounds _ _ (run-without answer m e at g (partOf (q .part)) size)) ∙ sym (ap boundsOf by-proof);
           inside = i .inside;
         }
 
-    pub to-no-entity : (at : ℕ) → p ≡ ToNoEntity at → EndsHere answer at NoEntity r → RunIs answer this-run r
+    pub to-stop : (s : Stop) (at : ℕ) → p ≡ ToStop s at → EndsHere answer at (NotFound s) r → RunIs answer this-run r
     unfolding check-end verdictOf
-    to-no-entity at e f = at-end SearchEnd.no-entity at (no-entity-is answer m p M at e) (f SearchEnd.no-entity Verdict.no-entity refl)
-
-    pub to-not-yet : (at : ℕ) → p ≡ ToNotYet at → EndsHere answer at NotYet r → RunIs answer this-run r
-    unfolding check-end verdictOf
-    to-not-yet at e f = at-end SearchEnd.not-yet at (not-yet-is answer m p M at e) (f SearchEnd.not-yet Verdict.not-yet refl)
+    to-stop s at e f =
+        let g = stopped-is answer m p M s at e in
+        at-end (SearchEnd.not-found (g .0)) at (g .2) (f (SearchEnd.not-found (g .0)) (Verdict.not-found (g .0)) (ap NotFound (g .1)))
 
     pub to-leaf : (leaf at : ℕ) → p ≡ ToLeaf leaf at
-        → RunIs answer (check-end (partOf part) size (found-proof answer leaf at) (SearchEnd.found (leaf-in-answer answer leaf))) r → RunIs answer this-run r
+        → RunIs answer (check-end (partOf (q .part)) size (found-proof answer leaf at) (SearchEnd.found (leaf-in-answer answer leaf))) r → RunIs answer this-run r
     unfolding found-proof leaf-in-answer
     to-leaf leaf at e f = at-end (SearchEnd.found (leaf-in-answer answer leaf)) at (found-is answer m p M leaf at e .1) f
 
 -- or row 14
-pub commitment-refused : (part : Part) (s t : ℕ) (commitment answer : Bytes) (size : ℕ) (r : Run) → (length commitment ≡ 32 → ⊥) → r ≡ bareRun (Refused 14 0)
-    → RunIs answer (run-under 0x52 (asking part s t) commitment answer size) r
+pub commitment-refused : (q : Question) (commitment answer : Bytes) (size : ℕ) (r : Run) → (length commitment ≡ 32 → ⊥) → r ≡ bareRun (Refused 14 0)
+    → RunIs answer (run-under 0x52 (questionOf q) commitment answer size) r
 unfolding run-under need _>>=_
-commitment-refused part s t commitment answer size r d q =
-    bare-refused answer (run-under 0x52 (asking part s t) commitment answer size) r 14 0 (simp (ne-eqb (length commitment) 32 d)) q
+commitment-refused q commitment answer size r d e =
+    bare-refused answer (run-under 0x52 (questionOf q) commitment answer size) r 14 0 (simp (ne-eqb (length commitment) 32 d)) e
 
 -- row 11, or the run of the question asked
 module _ (direction s t : ℕ) (commitment answer : Bytes) (size : ℕ) (r : Run) where
@@ -249,10 +245,10 @@ module _ (direction s t : ℕ) (commitment answer : Bytes) (size : ℕ) (r : Run
   unfolding run
   direction-refused e q = bare-refused answer (run direction s t commitment answer size) r 11 0 (bind-refused (question direction s t) _ 11 0 e) q
 
-  pub known-run : (part : Part) → question direction s t ≡ ok (asking part s t) → RunIs answer (run-under 0x52 (asking part s t) commitment answer size) r
+  pub known-run : (q : Question) → question direction s t ≡ ok (questionOf q) → RunIs answer (run-under 0x52 (questionOf q) commitment answer size) r
       → RunIs answer (run direction s t commitment answer size) r
   unfolding run
-  known-run part e f = subst (λ (m : Result Accepted). RunIs answer m r) (sym (bind-eq (question direction s t) _ (asking part s t) e)) f
+  known-run q e f = subst (λ (m : Result Accepted). RunIs answer m r) (sym (bind-eq (question direction s t) _ (questionOf q) e)) f
 
 -- ---- the calls
 

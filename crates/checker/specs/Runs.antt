@@ -17,11 +17,12 @@ use Rattle.model.specs.CheckRows.{leaf-in, CheckedProof, stopped, CheckedTrace,
 use Rattle.model.specs.Calls.{verdict-of}
 use Rattle.graph.specs.Table.{nodes-in, Kept, Digests, Ready}
 use Rattle.marks.specs.Marks.{mark-column}
+use Rattle.proof_reader.specs.Walks.{stopOf}
 use Rattle.trace_reader.specs.Records.{places-in}
 use Rattle.checker.specs.declared.Checking.{Checking}
 use Rattle.checker.specs.declared.Checking.the-variants as checking
 use Rattle.checker.specs.declared.Verdict as declared
-use Rattle.checker.specs.declared.Verdict.the-variants.{NoEntity, NotYet, Found}
+use Rattle.checker.specs.declared.Verdict.the-variants.{NotFound, Found}
 use Rattle.checker.specs.declared.Bounds.{Bounds}
 use Rattle.checker.specs.declared.Run.{Run}
 use Rattle.checker.specs.declared.Rows.{Rows}
@@ -31,8 +32,7 @@ use Rattle.checker.specs.declared.Rows.the-variants.{Passed, Refused}
 
 -- document 01's number and values for each case
 unfoldable pub verdictOf : Verdict → declared.Verdict
-verdictOf Verdict.no-entity = NoEntity
-verdictOf Verdict.not-yet = NotYet
+verdictOf (Verdict.not-found s) = NotFound (stopOf s)
 verdictOf (Verdict.found t n) = Found (record { 0 = t }) n
 
 unfoldable pub checkingOf : Result Verdict → Checking

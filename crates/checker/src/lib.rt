@@ -5,9 +5,11 @@ use graph::PLACE_COLUMN;
 use graph::SLOT_WIDTH;
 use model::LETTER_R;
 use proof_reader::Proof;
+use proof_reader::Stop;
 use question::Asked;
 use question::EntityKey;
 use question::Part;
+use question::Question;
 use question::TimeKey;
 use question::Way;
 use strings::DIGEST_WIDTH;
@@ -29,7 +31,7 @@ ghost use Rattle.model.specs.Calls.{cleared, check-call, records-call};
 ghost use Rattle.model.specs.Trace.{trace-header-width};
 ghost use Rattle.model.specs.Accumulator.{L-width, letter-R};
 ghost use Rattle.question.specs.Ways.{wayOf};
-ghost use Rattle.question.specs.Directions.{partOf, asking};
+ghost use Rattle.question.specs.Directions.{partOf, questionOf};
 ghost use Rattle.graph.specs.Table.{Slot, node-in, nodes-in, Ready};
 ghost use Rattle.marks.specs.Marks.{is-marked};
 ghost use Rattle.trace_reader.specs.Records.{place-in, places-in};
@@ -38,8 +40,7 @@ ghost use Rattle.checker.specs.Runs.{checkingOf, boundsOf, RunIs, bareRu
 
 // What an accepted answer says.
 pub enum Verdict {
-    NoEntity,
-    NotYet,
+    NotFound { stop: Stop },
     Found { time: TimeKey, count: usize },
 }
 
@@ -366,24 +367,17 @@ fn check_found(
 }
 
 // The run of a known question: row 14, the proof, the trace.
-fn run_known(
-    part: Part,
-    entity: EntityKey,
-    time: TimeKey,
-    commitment: &[u8],
-    answer: &[u8],
-    work: &mut [u8],
-) -> Run
-    ensures { λ r. ⌜ RunIs (now (answer .entry)) (run-under letter-R (asking part (entity .0) (time .0)) (now (commitment .entry)) (now (answer .entry)) (length (now (work .entry)))) r ⌝ }
+fn run_known(question: Question, commitment: &[u8], answer: &[u8], work: &mut [u8]) -> Run
+    ensures { λ r. ⌜ RunIs (now (answer .entry)) (run-under letter-R (questionOf question) (now (commitment .entry)) (now (answer .entry)) (length (now (work .entry)))) r ⌝ }
 {
     if commitment.len() != DIGEST_WIDTH {
         return refused_run(14, 0);
     }
+    let part = question.part;
     let constants = round_constants::work_out();
-    match proof_reader::check_proof(LETTER_R, entity, time, commitment, answer, 0, &constants) {
+    match proof_reader::check_proof(LETTER_R, question, commitment, answer, 0, &constants) {
         Proof::Refused { number, position } => refused_run(number, position),
-        Proof::NoEntity { at } => end_here(answer, at, Verdict::NoEntity),
-        Proof::NotYet { at } => end_here(answer, at, Verdict::NotYet),
+        Proof::Stopped { stop, at } => end_here(answer, at, Verdict::NotFound { stop: stop }),
         Proof::Found { leaf, at } => check_found(part, answer, leaf, at, work, &constants),
     }
 }
@@ -399,9 +393,9 @@ fn run_check(
 ) -> Run
     ensures { λ r. ⌜ RunIs (now (answer .entry)) (run direction (entity .0) (time .0) (now (commitment .entry)) (now (answer .entry)) (length (now (work .entry)))) r ⌝ }
 {
-    match question::asked_by(direction) {
+    match question::asked_by(direction, entity, time) {
         Asked::Unknown => refused_run(11, 0),
-        Asked::Known { part } => run_known(part, entity, time, commitment, answer, work),
+        Asked::Known { question } => run_known(question, commitment, answer, work),
     }
 }
 

@@ -13,14 +13,13 @@ use Rattle.model.specs.Log.{Record}
 use Rattle.model.specs.Graph.{VersionNode, InEdge, temporal, dependency, node-at, graph, NamedEdge, CausalPath, stay, step, edges-on}
 use Rattle.model.specs.Digest.{letter-I, letter-O, links-string, incoming-string, outgoing-string, incoming-strings, outgoing-strings, incoming-string-of, outgoing-string-of}
 use Rattle.model.specs.Accumulator.{letter-L, letter-N, letter-G, letter-P, letter-R, Header, strings-of, hashed-in-building}
-use Rattle.model.specs.Question.{backward, trace-of, Question, question, Verdict, count}
+use Rattle.model.specs.Question.{at-or-before, backward, trace-of, Question, asked, question, no-entity, Verdict, count}
 use Rattle.model.specs.Answer.{log-header, log-commitment, log-answer, log-hashed}
 use Rattle.model.specs.CheckRows.{enough, Accepted, run, path-strings, trace-strings, hashed-in-check}
 use Rattle.model.specs.Calls.{verdict-of}
-use Rattle.model.specs.Exact.{path-edges, ending, IsSought, sought-from, any-version, verdict-at, true-verdict, ShowsVersion, ShowsEdge, VersionOnPath, EdgeOnPath, Shows, Collision, Escape, strings, Faithful, Check, SoundLog, Soundness, Completeness}
+use Rattle.model.specs.Exact.{path-edges, ending, IsSought, nearest-from, sought, verdict-at, true-verdict, ShowsVersion, ShowsEdge, VersionOnPath, EdgeOnPath, Shows, Collision, Escape, strings, Faithful, Check, SoundLog, Soundness, Completeness}
 use Rattle.model.proofs.Outcomes.{refuse≢ok, ok-inj}
 use Rattle.model.proofs.Lists.{_among_, among-two}
-use Rattle.model.proofs.Walk.{asked}
 use Rattle.model.proofs.Widths.{letters-of}
 use Rattle.model.proofs.LogGraph.{well-formed}
 use Rattle.model.proofs.Verdicts.{true-verdict-only}
@@ -82,12 +81,12 @@ completeness-at-K = completeness (log-bytes K) K K-sound
 -- ---- each part of `Faithful`, at K's first question
 
 abbrev first-question : Question
-first-question = asked (trace-of backward) 2 35
+first-question = asked at-or-before (trace-of backward) 2 35
 
 -- the version sought is the third, 2 at 30
 first-sought : IsSought (graph K) first-question 2
 unfolding computed
-first-sought = found-is (graph K) (well-formed (log-bytes K) K K-sound) (trace-of backward) 2 35 _ refl .1
+first-sought = found-is (graph K) (well-formed (log-bytes K) K K-sound) first-question _ refl .1
 
 -- and its records show what is on its paths
 first-trace : Shows (graph K) 2 (trace-of backward) backward-2-35-records
@@ -95,7 +94,7 @@ unfolding computed
 first-trace = trace-shows (graph K) (well-formed (log-bytes K) K K-sound .starts-before) backward 2 (lit< tt)
 
 first-verdict : true-verdict (graph K) first-question ≡ Verdict.found 30 3
-unfolding computed sought-from any-version verdict-at true-verdict
+unfolding computed nearest-from sought verdict-at true-verdict
 first-verdict = refl
 
 -- a flow's edge by kind and by the names of its two ends
@@ -182,9 +181,9 @@ accept-all v direction s t c x work = ok (record { verdict = v; opened = []; rec
 
 pub accept-all-unsound : (v : Verdict) → Soundness (accept-all v) → ⊥
 unfolding computed accept-all hashed-in-check trace-strings path-strings incoming-strings log-answer
-accept-all-unsound v sound = go (sound (log-bytes K) K K-sound 1 2 35 (asked (trace-of backward) 2 35) refl [] Octets.none 0 _ refl)
+accept-all-unsound v sound = go (sound (log-bytes K) K K-sound 1 2 35 (asked at-or-before (trace-of backward) 2 35) refl [] Octets.none 0 _ refl)
   where
-    go : Faithful (log-header K) (graph K) (asked (trace-of backward) 2 35) [] (record { verdict = v; opened = []; records = []; records-start = 0; records-length = 0 })
+    go : Faithful (log-header K) (graph K) (asked at-or-before (trace-of backward) 2 35) [] (record { verdict = v; opened = []; records = []; records-start = 0; records-length = 0 })
         ⊎ Escape (log-header K) (graph K) (trace-of backward) (record { verdict = v; opened = []; records = []; records-start = 0; records-length = 0 }) → ⊥
     go (inl f) =
         let c = starred-cases .one in
@@ -199,16 +198,16 @@ pub refuse-all : ℕ → ℕ → Check
 refuse-all n p direction s t c x work = refuse n p
 
 pub refuse-all-incomplete : (n p : ℕ) → Completeness (refuse-all n p) → ⊥
-unfolding computed refuse-all verdict-of sought-from any-version verdict-at true-verdict
-refuse-all-incomplete n p complete = refuse≢ok (complete (log-bytes K) K K-sound 1 2 35 (asked (trace-of backward) 2 35) refl 384)
+unfolding computed refuse-all verdict-of nearest-from sought verdict-at true-verdict
+refuse-all-incomplete n p complete = refuse≢ok (complete (log-bytes K) K K-sound 1 2 35 (asked at-or-before (trace-of backward) 2 35) refl 384)
 
 -- "no entity" before R is opened: neither half holds
-pub no-entity-first-unsound : Soundness (accept-all Verdict.no-entity) → ⊥
-no-entity-first-unsound = accept-all-unsound Verdict.no-entity
+pub no-entity-first-unsound : Soundness (accept-all (Verdict.not-found no-entity)) → ⊥
+no-entity-first-unsound = accept-all-unsound (Verdict.not-found no-entity)
 
-pub no-entity-first-incomplete : Completeness (accept-all Verdict.no-entity) → ⊥
-unfolding computed accept-all verdict-of sought-from any-version verdict-at true-verdict
-no-entity-first-incomplete complete = never (ok-inj (complete (log-bytes K) K K-sound 1 2 35 (asked (trace-of backward) 2 35) refl 384))
+pub no-entity-first-incomplete : Completeness (accept-all (Verdict.not-found no-entity)) → ⊥
+unfolding computed accept-all verdict-of nearest-from sought verdict-at true-verdict
+no-entity-first-incomplete complete = never (ok-inj (complete (log-bytes K) K K-sound 1 2 35 (asked at-or-before (trace-of backward) 2 35) refl 384))
   where
-    never : Verdict.no-entity ≡ Verdict.found 30 3 → ⊥
+    never : Verdict.not-found no-entity ≡ Verdict.found 30 3 → ⊥
     never e = let z : _≡_ {A = ℕ} 0 1 = cc in omega arith

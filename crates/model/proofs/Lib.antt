@@ -1,4 +1,5 @@
--- What is proved of the definitions. `Soundness.soundness` and `Completeness.completeness` are demand 3; `LogK.starred-cases` is the table.
+-- What is proved of the definitions. `Soundness.soundness` and `Completeness.completeness` are demand 3; `LogK.starred-cases` and
+-- `LogK.ahead-cases` are the table.
 
 -- outcomes, strings, lists
 pub mod Outcomes
@@ -38,6 +39,7 @@ pub mod LogReading
 pub mod LogGraph
 pub mod FormerRows
 pub mod LogLaws
+pub mod Stops
 pub mod Soundness
 pub mod Completeness
 pub mod CheckCall

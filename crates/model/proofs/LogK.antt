@@ -1,6 +1,6 @@
 -- Log K: its starred cases in one proved table, under the real SHA-256. Assumes nothing.
 use mathlib.Core.Path.{_≡_, refl, sym, ap, _∙_, subst}
-use Prim.Native.Nat.{ℕ, zero, suc, _+_, _-_, _≤_}
+use Prim.Native.Nat.{ℕ, zero, suc, _+_, _-_, _*_, _≤_}
 use native.Mathlib.Omega.{arith}
 use mathlib.Core.Bool.{Bool, true, cond}
 use mathlib.Core.Option.{none}
@@ -15,7 +15,7 @@ use Rattle.model.specs.Log.{Record, birth, flow, BIRTH, FLOW, record-lim
 use Rattle.model.specs.Graph.{InEdge, temporal, dependency, VersionNode, latest-from, latest, made, grow, graph}
 use Rattle.model.specs.Digest.{letter-I, letter-O, links-string, incoming-string, outgoing-string, incoming-string-of, outgoing-string-of, incoming-strings, outgoing-strings}
 use Rattle.model.specs.Accumulator.{letter-L, letter-N, letter-G, letter-P, letter-R, branch-string, parent, doubled-below, largest-power-below, halved, tree, subtree, string-of, leaf-string, VersionLeaf, group-string, root-string, entities, leaf-at, version-leaves, of-entity, group, entity-tree, root, commitment}
-use Rattle.model.specs.Question.{backward, forward, Part, version-only, trace-of, Question, question, SearchEnd, by-entity, by-time, open-tree, open-versions, open-entities, Opened, Verdict, count}
+use Rattle.model.specs.Question.{Relation, at-or-before, at-or-after, backward, forward, Part, version-only, trace-of, Question, asked, question, no-entity, not-yet, none-so-late, SearchEnd, by-entity, by-time, open-tree, open-versions, open-entities, Opened, Verdict, count}
 use Rattle.model.specs.Trace.{letter-E, letter-V, letter-S, letter-T, letter-D, refers, referred, add-ancestors, ancestors, starts-in, add-descendants, descendants, trace-versions, position-in, edges-inside, node-inside, induced-subgraph, trace, one-edge-string, record-string-by, record-string, record-strings, trace-string, letter-B, letter-F}
 use Rattle.model.specs.Answer.{proof, trace-part, answer, log-header, log-commitment, log-answer}
 use Rattle.model.specs.LogRows.{parse, above-all, ends-rows, next-record, records-by, records-from, log-by, log-within, read-log}
@@ -25,7 +25,6 @@ use Rattle.model.specs.Listing.{decimal-within, decimal, line, birth-wor
 use Rattle.model.specs.Exact.{reached, SoundLog}
 use Rattle.model.proofs.Outcomes.{ok-inj, refuse≢ok, bind-eq, bind-refused, pass}
 use Rattle.model.proofs.Strings.{sum, H-length}
-use Rattle.model.proofs.Walk.{asked}
 use Rattle.model.proofs.Truth.{verdict-by}
 use Rattle.model.proofs.LogReading.{records-next}
 use Rattle.model.proofs.LogGraph.{well-formed}
@@ -80,94 +79,94 @@ two-births-sound = record { octets = log-octets two-births; reads = refl }
 
 -- ---- a question's answer and its check
 
-module _ (rs : List Record) (p : Part) (s t : ℕ) where
+module _ (rs : List Record) (ask : Question) where
   abbrev the-proof : Opened
-  the-proof = proof (log-header rs) (graph rs) (asked p s t)
+  the-proof = proof (log-header rs) (graph rs) ask
 
   abbrev the-end : SearchEnd VersionLeaf
-  the-end = open-entities (asked p s t) (entity-tree (graph rs)) .end
+  the-end = open-entities ask (entity-tree (graph rs)) .end
 
   abbrev the-trace : Bytes
-  the-trace = trace-part (graph rs) p the-end
+  the-trace = trace-part (graph rs) (ask .part) the-end
 
   abbrev room : ℕ → Result (Unit {0})
-  room work = enough (count (verdict-by (graph rs) p the-end)) work
+  room work = enough (count (verdict-by (graph rs) (ask .part) the-end)) work
 
   abbrev the-accepted : Accepted
-  the-accepted = accepted-by (graph rs) p (reading the-proof 0 the-trace) the-end
+  the-accepted = accepted-by (graph rs) (ask .part) (reading the-proof 0 the-trace) the-end
 
   abbrev the-size : ℕ
   the-size = sum (map proof-width (letters-of (the-proof .opened))) + length the-trace
 
-module _ (log : Bytes) (rs : List Record) (l : SoundLog log rs) (direction : ℕ) (p : Part) (s t : ℕ) (known : question direction s t ≡ ok (asked p s t)) where
+module _ (log : Bytes) (rs : List Record) (l : SoundLog log rs) (direction s t : ℕ) (ask : Question) (known : question direction s t ≡ ok ask) where
   abbrev the-run : ℕ → Result Accepted
-  the-run work = run direction s t (log-commitment rs) (log-answer rs (asked p s t)) work
+  the-run work = run direction s t (log-commitment rs) (log-answer rs ask) work
 
-  run-is : (work : ℕ) → the-run work ≡ (room rs p s t work >>= λ _. ok (the-accepted rs p s t))
+  run-is : (work : ℕ) → the-run work ≡ (room rs ask work >>= λ _. ok (the-accepted rs ask))
   unfolding run log-commitment log-answer log-header
   run-is work =
-      bind-eq _ (λ q. run-under letter-R q (log-commitment rs) (log-answer rs (asked p s t)) work) (asked p s t) known
-      ∙ answer-run (log-header rs) (graph rs) (well-formed log rs l) p s t work
+      bind-eq _ (λ q. run-under letter-R q (log-commitment rs) (log-answer rs ask) work) ask known
+      ∙ answer-run (log-header rs) (graph rs) (well-formed log rs l) ask work
 
-  pub run-accepts : (work : ℕ) → room rs p s t work ≡ ok tt → the-run work ≡ ok (the-accepted rs p s t)
-  run-accepts work e = run-is work ∙ bind-eq (room rs p s t work) _ tt e
+  pub run-accepts : (work : ℕ) → room rs ask work ≡ ok tt → the-run work ≡ ok (the-accepted rs ask)
+  run-accepts work e = run-is work ∙ bind-eq (room rs ask work) _ tt e
 
-  pub run-refuses : (work : ℕ) → room rs p s t work ≡ refuse 12 0 → the-run work ≡ refuse 12 0
-  run-refuses work e = run-is work ∙ bind-refused (room rs p s t work) _ 12 0 e
+  pub run-refuses : (work : ℕ) → room rs ask work ≡ refuse 12 0 → the-run work ≡ refuse 12 0
+  run-refuses work e = run-is work ∙ bind-refused (room rs ask work) _ 12 0 e
 
-  pub answer-length : length (log-answer rs (asked p s t)) ≡ the-size rs p s t
+  pub answer-length : length (log-answer rs ask) ≡ the-size rs ask
   unfolding log-answer answer proof log-header
   answer-length =
-      length-append (joined (the-proof rs p s t .opened)) (the-trace rs p s t)
-      ∙ ap (λ (n : ℕ). n + length (the-trace rs p s t)) (proof-length (log-header rs) (graph rs) (well-formed log rs l) header-letter p s t)
+      length-append (joined (the-proof rs ask .opened)) (the-trace rs ask)
+      ∙ ap (λ (n : ℕ). n + length (the-trace rs ask)) (proof-length (log-header rs) (graph rs) (well-formed log rs l) header-letter ask)
     where
       header-letter : log-header rs .letter ≡ letter-R
       header-letter = refl
 
 -- ---- cases with a trace
 
--- Of a question by its direction: the proof's letters and the answer's length; with 384 bytes of work area the check accepts with this
--- verdict, its records show these versions and edges, the records call returns these bytes, and
--- beside the opened strings the check hashed strings of these letters; with 383 the check meets 12.
+-- Of a question by its direction: the proof's letters and the answer's length; with 128 bytes of work area a record the check accepts
+-- with this verdict, its records show these versions and edges, the records call returns these bytes, and beside the opened strings the
+-- check hashed strings of these letters; with one byte less the check meets 12.
 pub record Traced (rs : List Record) (direction s t : ℕ) (letters : List ℕ) (long : ℕ) (v : Verdict) (records : List VersionNode) (bytes : List Bytes) (hashed : List ℕ) : Type 0 where
   pub q : Question
   pub known : question direction s t ≡ ok q
   pub the-letters : letters-of (proof (log-header rs) (graph rs) q .opened) ≡ letters
   pub the-length : length (log-answer rs q) ≡ long
   pub run-of : Accepted
-  pub accepted : run direction s t (log-commitment rs) (log-answer rs q) 384 ≡ ok run-of
+  pub accepted : run direction s t (log-commitment rs) (log-answer rs q) (128 * length records) ≡ ok run-of
   pub the-verdict : run-of .verdict ≡ v
   pub the-records : run-of .records ≡ records
-  pub the-part : records-part (log-answer rs q) (run direction s t (log-commitment rs) (log-answer rs q) 384) ≡ joined bytes
+  pub the-part : records-part (log-answer rs q) (run direction s t (log-commitment rs) (log-answer rs q) (128 * length records)) ≡ joined bytes
   pub the-hashed : letters-of (hashed-in-check (q .part) run-of) ≡ letters ++ hashed
-  pub too-little : run direction s t (log-commitment rs) (log-answer rs q) 383 ≡ refuse 12 0
+  pub too-little : run direction s t (log-commitment rs) (log-answer rs q) (128 * length records - 1) ≡ refuse 12 0
 
-module _ (log : Bytes) (rs : List Record) (l : SoundLog log rs) (direction : ℕ) (p : Part) (s t : ℕ) (known : question direction s t ≡ ok (asked p s t)) where
+module _ (log : Bytes) (rs : List Record) (l : SoundLog log rs) (direction s t : ℕ) (ask : Question) (known : question direction s t ≡ ok ask) where
   -- a case by what is computed of it
   traced : {letters : List ℕ} {long : ℕ} {v : Verdict} {records : List VersionNode} {bytes : List Bytes} {hashed : List ℕ}
-      → letters-of (the-proof rs p s t .opened) ≡ letters → the-size rs p s t ≡ long
-      → room rs p s t 384 ≡ ok tt → room rs p s t 383 ≡ refuse 12 0
-      → the-accepted rs p s t .verdict ≡ v → the-accepted rs p s t .records ≡ records
-      → records-part (log-answer rs (asked p s t)) (ok (the-accepted rs p s t))
-      ≡ part (joined (the-proof rs p s t .opened) ++ the-trace rs p s t) (0 + length (joined (the-proof rs p s t .opened)) + 5) (length (the-trace rs p s t) - 5)
-      → drop 5 (the-trace rs p s t) ≡ joined bytes
-      → letters-of (hashed-in-check p (the-accepted rs p s t)) ≡ letters ++ hashed
+      → letters-of (the-proof rs ask .opened) ≡ letters → the-size rs ask ≡ long
+      → room rs ask (128 * length records) ≡ ok tt → room rs ask (128 * length records - 1) ≡ refuse 12 0
+      → the-accepted rs ask .verdict ≡ v → the-accepted rs ask .records ≡ records
+      → records-part (log-answer rs ask) (ok (the-accepted rs ask))
+      ≡ part (joined (the-proof rs ask .opened) ++ the-trace rs ask) (0 + length (joined (the-proof rs ask .opened)) + 5) (length (the-trace rs ask) - 5)
+      → drop 5 (the-trace rs ask) ≡ joined bytes
+      → letters-of (hashed-in-check (ask .part) (the-accepted rs ask)) ≡ letters ++ hashed
       → Traced rs direction s t letters long v records bytes hashed
-  traced a b c d e f g h i =
+  traced {letters} {long} {v} {records} a b c d e f g h i =
       record {
-        q = asked p s t;
+        q = ask;
         known = known;
         the-letters = a;
-        the-length = answer-length log rs l direction p s t known ∙ b;
-        run-of = the-accepted rs p s t;
-        accepted = run-accepts log rs l direction p s t known 384 c;
+        the-length = answer-length log rs l direction s t ask known ∙ b;
+        run-of = the-accepted rs ask;
+        accepted = run-accepts log rs l direction s t ask known (128 * length records) c;
         the-verdict = e;
         the-records = f;
         the-part =
-            ap (records-part (log-answer rs (asked p s t))) (run-accepts log rs l direction p s t known 384 c)
-            ∙ g ∙ part-behind (joined (the-proof rs p s t .opened)) (the-trace rs p s t) 5 ∙ h;
+            ap (records-part (log-answer rs ask)) (run-accepts log rs l direction s t ask known (128 * length records) c)
+            ∙ g ∙ part-behind (joined (the-proof rs ask .opened)) (the-trace rs ask) 5 ∙ h;
         the-hashed = i;
-        too-little = run-refuses log rs l direction p s t known 383 d;
+        too-little = run-refuses log rs l direction s t ask known (128 * length records - 1) d;
       }
 
 abbrev node : ℕ → ℕ → List InEdge → VersionNode
@@ -190,7 +189,7 @@ backward-2-35-bytes =
 
 backward-2-35 : Traced K 1 2 35 found-letters 446 (Verdict.found 30 3) backward-2-35-records backward-2-35-bytes (letter-I ∷ letter-I ∷ letter-I ∷ [])
 unfolding computed log-answer answer records-part hashed-in-check trace-strings path-strings incoming-strings outgoing-strings incoming-string-of outgoing-string-of incoming-string outgoing-string links-string
-backward-2-35 = traced (log-bytes K) K K-sound 1 (trace-of backward) 2 35 refl refl refl refl refl refl refl refl refl refl
+backward-2-35 = traced (log-bytes K) K K-sound 1 2 35 (asked at-or-before (trace-of backward) 2 35) refl refl refl refl refl refl refl refl refl refl
 
 -- "1, 39, forward: S 1 10; D 2 30 kind 7, 0; V 1 40 kind 8, 0, 1. 451 bytes."
 abbrev forward-1-39-records : List VersionNode
@@ -205,7 +204,7 @@ forward-1-39-bytes =
 
 forward-1-39 : Traced K 2 1 39 found-letters 451 (Verdict.found 10 3) forward-1-39-records forward-1-39-bytes (letter-O ∷ letter-O ∷ letter-O ∷ [])
 unfolding computed log-answer answer records-part hashed-in-check trace-strings path-strings incoming-strings outgoing-strings incoming-string-of outgoing-string-of incoming-string outgoing-string links-string
-forward-1-39 = traced (log-bytes K) K K-sound 2 (trace-of forward) 1 39 refl refl refl refl refl refl refl refl refl refl
+forward-1-39 = traced (log-bytes K) K K-sound 2 1 39 (asked at-or-before (trace-of forward) 1 39) refl refl refl refl refl refl refl refl refl refl
 
 -- "2, 20, forward: S 2 20; T 2 30, 0; D 1 40 kind 8, 1. 446 bytes."
 abbrev forward-2-20-records : List VersionNode
@@ -220,19 +219,22 @@ forward-2-20-bytes =
 
 forward-2-20 : Traced K 2 2 20 found-letters 446 (Verdict.found 20 3) forward-2-20-records forward-2-20-bytes (letter-O ∷ letter-O ∷ letter-O ∷ [])
 unfolding computed log-answer answer records-part hashed-in-check trace-strings path-strings incoming-strings outgoing-strings incoming-string-of outgoing-string-of incoming-string outgoing-string links-string
-forward-2-20 = traced (log-bytes K) K K-sound 2 (trace-of forward) 2 20 refl refl refl refl refl refl refl refl refl refl
+forward-2-20 = traced (log-bytes K) K K-sound 2 2 20 (asked at-or-before (trace-of forward) 2 20) refl refl refl refl refl refl refl refl refl refl
 
--- ---- cases without a trace, in all three directions
+-- ---- cases without a trace, in all three directions of a relation
 
 -- every known question has the form that the theorems speak of
-question-asked : (direction s t : ℕ) (q : Question) → question direction s t ≡ ok q → (p : Part) × (q ≡ asked p s t)
+question-asked : (direction s t : ℕ) (q : Question) → question direction s t ≡ ok q → (r : Relation) × (p : Part) × (q ≡ asked r p s t)
 unfolding question
-question-asked zero s t q e = (version-only, sym (ok-inj e))
-question-asked (suc zero) s t q e = (trace-of backward, sym (ok-inj e))
-question-asked (suc (suc zero)) s t q e = (trace-of forward, sym (ok-inj e))
-question-asked (suc (suc (suc d))) s t q e = refuse≢ok e
+question-asked zero s t q e = (at-or-before, version-only, sym (ok-inj e))
+question-asked (suc zero) s t q e = (at-or-before, trace-of backward, sym (ok-inj e))
+question-asked (suc (suc zero)) s t q e = (at-or-before, trace-of forward, sym (ok-inj e))
+question-asked (suc (suc (suc zero))) s t q e = (at-or-after, version-only, sym (ok-inj e))
+question-asked (suc (suc (suc (suc zero)))) s t q e = (at-or-after, trace-of backward, sym (ok-inj e))
+question-asked (suc (suc (suc (suc (suc zero))))) s t q e = (at-or-after, trace-of forward, sym (ok-inj e))
+question-asked (suc (suc (suc (suc (suc (suc d)))))) s t q e = refuse≢ok e
 
--- whatever the direction, and with no work area
+-- with no work area
 pub record Untraced (rs : List Record) (s t : ℕ) (letters : List ℕ) (long : ℕ) (v : Verdict) (direction : ℕ) (q : Question) : Type 0 where
   pub the-letters : letters-of (proof (log-header rs) (graph rs) q .opened) ≡ letters
   pub the-length : length (log-answer rs q) ≡ long
@@ -241,50 +243,100 @@ pub record Untraced (rs : List Record) (s t : ℕ) (letters : List ℕ) (long : 
   pub the-verdict : run-of .verdict ≡ v
   pub no-records : run-of .records ≡ []
 
-abbrev InAllDirections : List Record → ℕ → ℕ → List ℕ → ℕ → Verdict → Type 0
-InAllDirections rs s t letters long v = (direction : ℕ) (q : Question) → question direction s t ≡ ok q → Untraced rs s t letters long v direction q
-
 -- a case by what is computed of it
-untraced : (log : Bytes) (rs : List Record) (l : SoundLog log rs) (s t : ℕ) {letters : List ℕ} {long : ℕ} {v : Verdict}
-    → ((p : Part) → letters-of (the-proof rs p s t .opened) ≡ letters) → ((p : Part) → the-size rs p s t ≡ long)
-    → ((p : Part) → room rs p s t 0 ≡ ok tt)
-    → ((p : Part) → the-accepted rs p s t .verdict ≡ v) → ((p : Part) → the-accepted rs p s t .records ≡ [])
-    → InAllDirections rs s t letters long v
-untraced log rs l s t {letters} {long} {v} a b c d e direction q known = go (question-asked direction s t q known)
+untraced : (log : Bytes) (rs : List Record) (l : SoundLog log rs) (direction s t : ℕ) (ask : Question) (known : question direction s t ≡ ok ask)
+    {letters : List ℕ} {long : ℕ} {v : Verdict}
+    → letters-of (the-proof rs ask .opened) ≡ letters → the-size rs ask ≡ long → room rs ask 0 ≡ ok tt
+    → the-accepted rs ask .verdict ≡ v → the-accepted rs ask .records ≡ []
+    → Untraced rs s t letters long v direction ask
+untraced log rs l direction s t ask known a b c d e =
+    record {
+      the-letters = a;
+      the-length = answer-length log rs l direction s t ask known ∙ b;
+      run-of = the-accepted rs ask;
+      accepted = run-accepts log rs l direction s t ask known 0 c;
+      the-verdict = d;
+      no-records = e;
+    }
+
+-- in every direction of a relation: 0 to 2, or 3 to 5
+abbrev InDirections : Relation → List Record → ℕ → ℕ → List ℕ → ℕ → Verdict → Type 0
+InDirections r rs s t letters long v = (direction : ℕ) (q : Question) → question direction s t ≡ ok q → q .relation ≡ r → Untraced rs s t letters long v direction q
+
+in-directions : (log : Bytes) (rs : List Record) (l : SoundLog log rs) (r : Relation) (s t : ℕ) {letters : List ℕ} {long : ℕ} {v : Verdict}
+    → ((p : Part) → letters-of (the-proof rs (asked r p s t) .opened) ≡ letters) → ((p : Part) → the-size rs (asked r p s t) ≡ long)
+    → ((p : Part) → room rs (asked r p s t) 0 ≡ ok tt)
+    → ((p : Part) → the-accepted rs (asked r p s t) .verdict ≡ v) → ((p : Part) → the-accepted rs (asked r p s t) .records ≡ [])
+    → InDirections r rs s t letters long v
+in-directions log rs l r s t {letters} {long} {v} a b c d e direction q known by-r = go (question-asked direction s t q known)
   where
-    go : (p : Part) × (q ≡ asked p s t) → Untraced rs s t letters long v direction q
-    go r =
-        let p = r .0 in
-        let k = known ∙ ap (λ (z : Question). ok z) (r .1) in
-        subst (Untraced rs s t letters long v direction) (sym (r .1))
-        (record {
-          the-letters = a p;
-          the-length = answer-length log rs l direction p s t k ∙ b p;
-          run-of = the-accepted rs p s t;
-          accepted = run-accepts log rs l direction p s t k 0 (c p);
-          the-verdict = d p;
-          no-records = e p;
-        })
+    go : (r′ : Relation) × (p : Part) × (q ≡ asked r′ p s t) → Untraced rs s t letters long v direction q
+    go z =
+        let p = z .1 in
+        let is : q ≡ asked r p s t = z .2 ∙ ap (λ (x : Relation). asked x p s t) (sym (ap (λ (x : Question). x .relation) (z .2)) ∙ by-r) in
+        let k = known ∙ ap (λ (x : Question). ok x) is in
+        subst (Untraced rs s t letters long v direction) (sym is)
+        (untraced log rs l direction s t (asked r p s t) k (a p) (b p) (c p) (d p) (e p))
 
--- "2, 19: not yet, 219 bytes."
-not-yet-2-19 : InAllDirections K 2 19 (letter-R ∷ letter-P ∷ letter-G ∷ []) 219 Verdict.not-yet
+-- "2, 19: not yet, 219 bytes", with the entity's first time
+not-yet-2-19 : InDirections at-or-before K 2 19 (letter-R ∷ letter-P ∷ letter-G ∷ []) 219 (Verdict.not-found (not-yet 20))
 unfolding computed
-not-yet-2-19 = untraced (log-bytes K) K K-sound 2 19 (λ p. refl) (λ p. refl) (λ p. refl) (λ p. refl) (λ p. refl)
+not-yet-2-19 = in-directions (log-bytes K) K K-sound at-or-before 2 19 (λ p. refl) (λ p. refl) (λ p. refl) (λ p. refl) (λ p. refl)
 
--- "3 and 0: no entity, 65 bytes."
-no-entity-3 : (t : ℕ) → InAllDirections K 3 t (letter-R ∷ []) 65 Verdict.no-entity
+-- "3 and 0: no entity, 65 bytes", by both relations
+no-entity-3 : (r : Relation) (t : ℕ) → InDirections r K 3 t (letter-R ∷ []) 65 (Verdict.not-found no-entity)
 unfolding computed
-no-entity-3 t = untraced (log-bytes K) K K-sound 3 t (λ p. refl) (λ p. refl) (λ p. refl) (λ p. refl) (λ p. refl)
+no-entity-3 r t = in-directions (log-bytes K) K K-sound r 3 t (λ p. refl) (λ p. refl) (λ p. refl) (λ p. refl) (λ p. refl)
 
--- "3 and 0: no entity, 65 bytes."
-no-entity-0 : (t : ℕ) → InAllDirections K 0 t (letter-R ∷ []) 65 Verdict.no-entity
+no-entity-0 : (r : Relation) (t : ℕ) → InDirections r K 0 t (letter-R ∷ []) 65 (Verdict.not-found no-entity)
 unfolding computed
-no-entity-0 t = untraced (log-bytes K) K K-sound 0 t (λ p. refl) (λ p. refl) (λ p. refl) (λ p. refl) (λ p. refl)
+no-entity-0 r t = in-directions (log-bytes K) K K-sound r 0 t (λ p. refl) (λ p. refl) (λ p. refl) (λ p. refl) (λ p. refl)
 
 -- "Births 1 and 5 only, asked 3: R and P, 162 bytes."
-between-births : (t : ℕ) → InAllDirections two-births 3 t (letter-R ∷ letter-P ∷ []) 162 Verdict.no-entity
+between-births : (r : Relation) (t : ℕ) → InDirections r two-births 3 t (letter-R ∷ letter-P ∷ []) 162 (Verdict.not-found no-entity)
 unfolding computed
-between-births t = untraced (log-bytes two-births) two-births two-births-sound 3 t (λ p. refl) (λ p. refl) (λ p. refl) (λ p. refl) (λ p. refl)
+between-births r t = in-directions (log-bytes two-births) two-births two-births-sound r 3 t (λ p. refl) (λ p. refl) (λ p. refl) (λ p. refl) (λ p. refl)
+
+-- ---- looking ahead, on K: not among document 01's cases
+
+-- 2, 31: none so late, with the entity's last time, 219 bytes
+none-so-late-2-31 : InDirections at-or-after K 2 31 (letter-R ∷ letter-P ∷ letter-G ∷ []) 219 (Verdict.not-found (none-so-late 30))
+unfolding computed
+none-so-late-2-31 = in-directions (log-bytes K) K K-sound at-or-after 2 31 (λ p. refl) (λ p. refl) (λ p. refl) (λ p. refl) (λ p. refl)
+
+-- 2, 21, backward: 2 at 30, with the records of 2, 35, backward
+backward-2-21 : Traced K 4 2 21 found-letters 446 (Verdict.found 30 3) backward-2-35-records backward-2-35-bytes (letter-I ∷ letter-I ∷ letter-I ∷ [])
+unfolding computed log-answer answer records-part hashed-in-check trace-strings path-strings incoming-strings outgoing-strings incoming-string-of outgoing-string-of incoming-string outgoing-string links-string
+backward-2-21 = traced (log-bytes K) K K-sound 4 2 21 (asked at-or-after (trace-of backward) 2 21) refl refl refl refl refl refl refl refl refl refl
+
+-- 2, 21, forward: S 2 30; D 1 40 kind 8, 0. 429 bytes.
+abbrev forward-2-21-records : List VersionNode
+forward-2-21-records = node 2 30 [] ∷ node 1 40 (dependency 8 0 ∷ []) ∷ []
+
+abbrev forward-2-21-bytes : List Bytes
+forward-2-21-bytes =
+    (letter-S ∷ []) ∷ encode 4 2 ∷ encode 8 30
+    ∷ (letter-D ∷ []) ∷ encode 4 1 ∷ encode 8 40 ∷ encode 1 8 ∷ encode 4 0
+    ∷ []
+
+forward-2-21 : Traced K 5 2 21 found-letters 429 (Verdict.found 30 2) forward-2-21-records forward-2-21-bytes (letter-O ∷ letter-O ∷ [])
+unfolding computed log-answer answer records-part hashed-in-check trace-strings path-strings incoming-strings outgoing-strings incoming-string-of outgoing-string-of incoming-string outgoing-string links-string
+forward-2-21 = traced (log-bytes K) K K-sound 5 2 21 (asked at-or-after (trace-of forward) 2 21) refl refl refl refl refl refl refl refl refl refl
+
+-- 1, 0: 1 at 10, which is after 0
+only-1-0 : Untraced K 1 0 found-letters 393 (Verdict.found 10 0) 3 (asked at-or-after version-only 1 0)
+unfolding computed
+only-1-0 = untraced (log-bytes K) K K-sound 3 1 0 (asked at-or-after version-only 1 0) refl refl refl refl refl refl
+
+-- 1, 10, forward: 1 at 10 itself, with the records of 1, 39, forward
+forward-1-10 : Traced K 5 1 10 found-letters 451 (Verdict.found 10 3) forward-1-39-records forward-1-39-bytes (letter-O ∷ letter-O ∷ letter-O ∷ [])
+unfolding computed log-answer answer records-part hashed-in-check trace-strings path-strings incoming-strings outgoing-strings incoming-string-of outgoing-string-of incoming-string outgoing-string links-string
+forward-1-10 = traced (log-bytes K) K K-sound 5 1 10 (asked at-or-after (trace-of forward) 1 10) refl refl refl refl refl refl refl refl refl refl
+
+-- 1, 11, forward: S 1 40. 411 bytes.
+forward-1-11 : Traced K 5 1 11 found-letters 411 (Verdict.found 40 1) (node 1 40 [] ∷ []) ((letter-S ∷ []) ∷ encode 4 1 ∷ encode 8 40 ∷ []) (letter-O ∷ [])
+unfolding computed log-answer answer records-part hashed-in-check trace-strings path-strings incoming-strings outgoing-strings incoming-string-of outgoing-string-of incoming-string outgoing-string links-string
+forward-1-11 = traced (log-bytes K) K K-sound 5 1 11 (asked at-or-after (trace-of forward) 1 11) refl refl refl refl refl refl refl refl refl refl
 
 -- ---- logs that are turned away
 
@@ -319,10 +371,10 @@ pub record StarredCases : Type 0 where
   pub one : Traced K 1 2 35 found-letters 446 (Verdict.found 30 3) backward-2-35-records backward-2-35-bytes (letter-I ∷ letter-I ∷ letter-I ∷ [])
   pub two : Traced K 2 1 39 found-letters 451 (Verdict.found 10 3) forward-1-39-records forward-1-39-bytes (letter-O ∷ letter-O ∷ letter-O ∷ [])
   pub three : Traced K 2 2 20 found-letters 446 (Verdict.found 20 3) forward-2-20-records forward-2-20-bytes (letter-O ∷ letter-O ∷ letter-O ∷ [])
-  pub four : InAllDirections K 2 19 (letter-R ∷ letter-P ∷ letter-G ∷ []) 219 Verdict.not-yet
-  pub five : (t : ℕ) → InAllDirections K 3 t (letter-R ∷ []) 65 Verdict.no-entity
-  pub six : (t : ℕ) → InAllDirections K 0 t (letter-R ∷ []) 65 Verdict.no-entity
-  pub seven : (t : ℕ) → InAllDirections two-births 3 t (letter-R ∷ letter-P ∷ []) 162 Verdict.no-entity
+  pub four : InDirections at-or-before K 2 19 (letter-R ∷ letter-P ∷ letter-G ∷ []) 219 (Verdict.not-found (not-yet 20))
+  pub five : (r : Relation) (t : ℕ) → InDirections r K 3 t (letter-R ∷ []) 65 (Verdict.not-found no-entity)
+  pub six : (r : Relation) (t : ℕ) → InDirections r K 0 t (letter-R ∷ []) 65 (Verdict.not-found no-entity)
+  pub seven : (r : Relation) (t : ℕ) → InDirections r two-births 3 t (letter-R ∷ letter-P ∷ []) 162 (Verdict.not-found no-entity)
   pub eight : read-log (log-bytes (birth 1 10 ∷ birth 2 10 ∷ flow 1 2 7 30 ∷ flow 2 1 8 40 ∷ [])) ≡ refuse 5 13
   pub nine : read-log (log-bytes (K ++ (flow 1 1 7 50 ∷ []))) ≡ refuse 9 62
   pub ten : (x : Bytes) → getD x 0 0 ≡ FLOW → 18 ≤ length x → read-log x ≡ refuse 7 0
@@ -340,6 +392,29 @@ starred-cases =
       eight = second-time;
       nine = flow-to-itself;
       ten = flow-first;
+    }
+
+-- ---- the table of looking ahead
+
+pub record AheadCases : Type 0 where
+  pub one : Traced K 4 2 21 found-letters 446 (Verdict.found 30 3) backward-2-35-records backward-2-35-bytes (letter-I ∷ letter-I ∷ letter-I ∷ [])
+  pub two : Traced K 5 2 21 found-letters 429 (Verdict.found 30 2) forward-2-21-records forward-2-21-bytes (letter-O ∷ letter-O ∷ [])
+  pub three : InDirections at-or-after K 2 31 (letter-R ∷ letter-P ∷ letter-G ∷ []) 219 (Verdict.not-found (none-so-late 30))
+  pub four : Untraced K 1 0 found-letters 393 (Verdict.found 10 0) 3 (asked at-or-after version-only 1 0)
+  pub five : Traced K 5 1 10 found-letters 451 (Verdict.found 10 3) forward-1-39-records forward-1-39-bytes (letter-O ∷ letter-O ∷ letter-O ∷ [])
+  pub six : Traced K 5 1 11 found-letters 411 (Verdict.found 40 1) (node 1 40 [] ∷ []) ((letter-S ∷ []) ∷ encode 4 1 ∷ encode 8 40 ∷ []) (letter-O ∷ [])
+  pub seven : InDirections at-or-after K 3 0 (letter-R ∷ []) 65 (Verdict.not-found no-entity)
+
+pub ahead-cases : AheadCases
+ahead-cases =
+    record {
+      one = backward-2-21;
+      two = forward-2-21;
+      three = none-so-late-2-31;
+      four = only-1-0;
+      five = forward-1-10;
+      six = forward-1-11;
+      seven = no-entity-3 at-or-after 0;
     }
 
 -- ---- rows of the log; a row that comes first wins
@@ -385,11 +460,11 @@ read-first x work = read-trace backward work 393 x
 
 abbrev judge-first : Bytes → Result Accepted
 judge-first x =
-    with-trace backward 384 (record { end = SearchEnd.no-entity; opened = []; pos = 393; rest = x })
+    with-trace backward 384 (record { end = SearchEnd.not-found no-entity; opened = []; pos = 393; rest = x })
     (record { entity = 2; time = 30; incoming = []; outgoing = [] })
 
 pub rows-of-the-check :
-    (run 3 2 35 [] [] 0 ≡ refuse 11 0)
+    (run 6 2 35 [] [] 0 ≡ refuse 11 0)
     × (run 1 2 35 [] [] 0 ≡ refuse 14 0)
     × (run 1 2 35 (encode 32 0) [] 0 ≡ refuse 15 0)
     × (run 1 2 35 (encode 32 0) (letter-P ∷ []) 0 ≡ refuse 16 0)
@@ -467,7 +542,7 @@ module _ (out work : Bytes) (enough-work : leb 512 (length work) ≡ true) where
       → answer-call 1 2 35 (log-bytes K) out work ≡ writing length (need (leb 446 (length out)) 13 0 >>= λ _. ok (log-answer K q)) out work
   unfolding computed answer-call answer-bytes
   answer-by q known long =
-      ap (λ (b : Bool). writing length (need b 12 0 >>= λ _. fitting out (log-answer K (asked (trace-of backward) 2 35))) out work) enough-work
+      ap (λ (b : Bool). writing length (need b 12 0 >>= λ _. fitting out (log-answer K (asked at-or-before (trace-of backward) 2 35))) out work) enough-work
       ∙ ap (λ (z : Question). writing length (fitting out (log-answer K z)) out work) (ok-inj known)
       ∙ ap (λ (r : Result Bytes). writing length r out work) (fitting-by out (log-answer K q) 446 long)
 
@@ -480,14 +555,14 @@ pub rows-of-the-calls :
     × (commitment-call (log-bytes K) (zeros 31) (zeros 512) .result ≡ refuse 13 0)
     × (commitment-call (log-bytes K) (zeros 31) (zeros 512) .output ≡ zeros 31)
     × (commitment-call (log-bytes K) (zeros 32) (zeros 512) .result ≡ ok tt)
-    × (answer-call 3 2 35 [] [] [] .result ≡ refuse 11 0)
+    × (answer-call 6 2 35 [] [] [] .result ≡ refuse 11 0)
     × (answer-call 1 2 35 [] [] [] .result ≡ refuse 1 0)
     × (answer-call 1 2 35 (log-bytes K) (zeros 445) (zeros 511) .result ≡ refuse 12 0)
     × (answer-call 1 2 35 (log-bytes K) (zeros 445) (zeros 512) .result ≡ refuse 13 0)
     × (answer-call 1 2 35 (log-bytes K) (zeros 446) (zeros 512) .result ≡ ok 446)
     × (listing-call (log-bytes K) (zeros 65) .result ≡ refuse 13 0)
     × (listing-call (log-bytes K) (zeros 66) .result ≡ ok 66)
-    × (records-call 3 2 35 [] [] [] .result ≡ [])
+    × (records-call 6 2 35 [] [] [] .result ≡ [])
     × (records-call 1 2 35 (log-commitment K) (log-answer K (starred-cases .one .q)) (zeros 383) .result ≡ [])
 unfolding computed hash-call commitment-call commitment-bytes answer-call answer-bytes listing-call records-call records-part writing fitting output-after run listing listing-within listed too-long version-line made-by line decimal decimal-within
 rows-of-the-calls =

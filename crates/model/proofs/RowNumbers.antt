@@ -14,7 +14,7 @@ use Rattle.model.specs.LogRows.{parse, ends-rows, next-record, records-b
 use Rattle.model.specs.Graph.{VersionNode}
 use Rattle.model.specs.Accumulator.{Subtree, Layout, Leaf, branch-width}
 use Rattle.model.specs.Question.{Way, Part, version-only, trace-of, Question, question, SearchEnd, Descent}
-use Rattle.model.specs.CheckRows.{take-string, CheckedProof, stopped, opening, chosen, check-tree, check-versions, check-entities, check-proof, read-record, CheckedTrace, read-records, enough, read-trace, trace-rows, end-here, with-trace, check-end, run-under, run}
+use Rattle.model.specs.CheckRows.{take-string, CheckedProof, opening, chosen, check-tree, check-versions, check-entities, check-proof, read-record, CheckedTrace, read-records, enough, read-trace, trace-rows, end-here, with-trace, check-end, run-under, run}
 use Rattle.model.specs.Calls.{hash-call, log-call, listing-call, commitment-bytes, commitment-call, answer-bytes, answer-call, verdict-of, check-call, fitting, writing}
 use Rattle.model.proofs.Outcomes.{and-T}
 
@@ -84,13 +84,13 @@ unfolding take-string
 string letter width due pos x =
     after _ _ (row _ 15 pos tt) (λ _. after _ _ (row _ 16 pos tt) (λ _. after _ _ (row _ 15 pos tt) (λ _. after _ _ (row _ 17 pos tt) (λ _. given _))))
 
-module _ {A : Type 0} (l : Layout A) (d : Descent) (e : SearchEnd Leaf) (inside : Bytes → ℕ → ℕ → Bytes → Result CheckedProof)
+module _ {A : Type 0} (l : Layout A) (d : Descent) (inside : Bytes → ℕ → ℕ → Bytes → Result CheckedProof)
     (h : (s : Bytes) (f pos : ℕ) (x : Bytes) → Numbered (inside s f pos x)) where
-  tree : (f : ℕ) (k : Subtree) (pos : ℕ) (x : Bytes) → Numbered (check-tree l d e inside f k pos x)
+  tree : (f : ℕ) (k : Subtree) (pos : ℕ) (x : Bytes) → Numbered (check-tree l d inside f k pos x)
   unfolding check-tree
   tree zero k pos x = either (d .stops k) _ _ (given _) (turned 15 pos tt)
   tree (suc f) k pos x =
-      either (d .stops k) _ _ (given (stopped e pos x))
+      either (d .stops k) _ _ (given _)
       (either (eqb (k .least) (k .greatest)) _ _
       (after _ _ (string (l .leaf-letter) (l .leaf-width) (k .digest) pos x)
       (λ s. after _ (λ r. ok (opening s r)) (h s f (pos + l .leaf-width) (drop (l .leaf-width) x)) (λ r. given (opening s r))))
@@ -101,7 +101,7 @@ proof : (letter : ℕ) (q : Question) (due : Bytes) (pos : ℕ) (x : Bytes) → 
 unfolding check-proof check-entities check-versions
 proof letter q due pos x =
     after _ _ (string letter 65 due pos x)
-    (λ s. after _ _ (tree _ _ _ _ (λ s f pos x. tree _ _ _ _ (λ s f pos x. given _) f _ pos x) (length x) _ _ _) (λ r. given _))
+    (λ s. after _ _ (tree _ _ _ (λ s f pos x. tree _ _ _ (λ s f pos x. given _) f _ pos x) (length x) _ _ _) (λ r. given _))
 
 -- ---- the trace
 
@@ -133,8 +133,7 @@ here v p = after _ _ (row _ 18 _ tt) (λ _. given _)
 
 end : (p : Part) (work : ℕ) (r : CheckedProof) (e : SearchEnd Leaf) → Numbered (check-end p work r e)
 unfolding check-end with-trace
-end p work r SearchEnd.no-entity = here _ r
-end p work r SearchEnd.not-yet = here _ r
+end p work r (SearchEnd.not-found s) = here _ r
 end version-only work r (SearchEnd.found l) = here _ r
 end (trace-of way) work r (SearchEnd.found l) = after _ _ (trace way work _ _) (λ t. after _ _ (rows way l t) (λ _. given _))
 
@@ -143,7 +142,10 @@ unfolding question
 ask zero s t = given _
 ask (suc zero) s t = given _
 ask (suc (suc zero)) s t = given _
-ask (suc (suc (suc d))) s t = turned 11 0 tt
+ask (suc (suc (suc zero))) s t = given _
+ask (suc (suc (suc (suc zero)))) s t = given _
+ask (suc (suc (suc (suc (suc zero))))) s t = given _
+ask (suc (suc (suc (suc (suc (suc d)))))) s t = turned 11 0 tt
 
 pub run-numbered : (direction : ℕ) (s : EntityKey) (t : TimeKey) (c x : Bytes) (work : ℕ) → Numbered (run direction s t c x work)
 unfolding run run-under

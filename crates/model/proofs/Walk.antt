@@ -15,7 +15,7 @@ use Rattle.fields.proofs.Places.{equal-true}
 use Rattle.model.specs.Result.{Result, ok, _>>=_}
 use Rattle.model.specs.Numbers.{Bytes, EntityKey, entity-width, time-width, digest-width, key-width, H, joined}
 use Rattle.model.specs.Accumulator.{branch-width, R-width, Subtree, branch-string, parent, Tree, tip, branch, Layout, subtree, string-of, strings-of, Leaf, leaf-string, VersionLeaf, versions-layout, group-string, Group, entities-layout, Header, root-string}
-use Rattle.model.specs.Question.{at-or-before, Part, Question, SearchEnd, Descent, by-entity, by-time, Opened, stop, after, open-tree, open-versions, open-entities}
+use Rattle.model.specs.Question.{Relation, Question, SearchEnd, Descent, by-entity, by-time, Opened, stop, after, open-tree, open-versions, open-entities}
 use Rattle.model.specs.CheckRows.{take-string, CheckedProof, stopped, opening, subtree-in, chosen, leaf-in, check-tree, check-versions, check-entities, check-proof}
 use Rattle.model.specs.Exact.{Collision}
 use Rattle.model.proofs.Outcomes.{refuse≢ok, ok-inj, bind-ok, past, by-test, test, cond-T, cond-F}
@@ -130,8 +130,7 @@ leaf-back l h =
 -- ---- the end of a walk, as the check sees it
 
 abbrev pub seen : SearchEnd VersionLeaf → SearchEnd Leaf
-seen SearchEnd.no-entity = SearchEnd.no-entity
-seen SearchEnd.not-yet = SearchEnd.not-yet
+seen (SearchEnd.not-found s) = SearchEnd.not-found s
 seen (SearchEnd.found v) = SearchEnd.found (v .leaf)
 
 pub record Agrees (r : CheckedProof) (w : Opened) : Type 0 where
@@ -237,19 +236,19 @@ module _ {A : Type 0} (l : Layout A) where
 
 -- ---- the defined walk at a tree
 
-module _ {A : Type 0} (l : Layout A) (d : Descent) (e : SearchEnd VersionLeaf) (inside : A → Opened) where
-  pub stopped-at : (t : Tree A) → T (d .stops (subtree l t)) → open-tree l d e inside t ≡ stop e
+module _ {A : Type 0} (l : Layout A) (d : Descent) (inside : A → Opened) where
+  pub stopped-at : (t : Tree A) → T (d .stops (subtree l t)) → open-tree l d inside t ≡ stop (SearchEnd.not-found (d .stop-at (subtree l t)))
   unfolding open-tree
   stopped-at (tip a) h = cond-T (d .stops (subtree l (tip a))) _ _ h
   stopped-at (branch s t) h = cond-T (d .stops (subtree l (branch s t))) _ _ h
 
-  pub opened-tip : (a : A) → T (not (d .stops (subtree l (tip a)))) → open-tree l d e inside (tip a) ≡ after (l .string a) (inside a)
+  pub opened-tip : (a : A) → T (not (d .stops (subtree l (tip a)))) → open-tree l d inside (tip a) ≡ after (l .string a) (inside a)
   unfolding open-tree
   opened-tip a h = cond-F (d .stops (subtree l (tip a))) _ _ h
 
   pub opened-branch : (s t : Tree A) → T (not (d .stops (subtree l (branch s t))))
-      → open-tree l d e inside (branch s t)
-      ≡ after (string-of l (branch s t)) (cond (d .goes-left (subtree l s) (subtree l t)) (open-tree l d e inside s) (open-tree l d e inside t))
+      → open-tree l d inside (branch s t)
+      ≡ after (string-of l (branch s t)) (cond (d .goes-left (subtree l s) (subtree l t)) (open-tree l d inside s) (open-tree l d inside t))
   unfolding open-tree
   opened-branch s t h = cond-F (d .stops (subtree l (branch s t))) _ _ h
 
@@ -259,64 +258,64 @@ module _ {A : Type 0} (l : Layout A) (d : Descent) (e : SearchEnd VersionLeaf) (
 abbrev pub Follows : {A : Type 0} → Layout A → (A → Opened) → (Bytes → ℕ → ℕ → Bytes → Result CheckedProof) → List Bytes → A → Type 0
 Follows l inside after-leaf B a = (f pos : ℕ) (x : Bytes) (r : CheckedProof) → after-leaf (l .string a) f pos x ≡ ok r → Sound B r (inside a)
 
-module _ {A : Type 0} (l : Layout A) (letters : Letters l) (d : Descent) (e : SearchEnd VersionLeaf)
+module _ {A : Type 0} (l : Layout A) (letters : Letters l) (d : Descent)
     (inside : A → Opened) (after-leaf : Bytes → ℕ → ℕ → Bytes → Result CheckedProof) (inside-strings : A → List Bytes) (B : List Bytes)
   where
-    stops : (t : Tree A) (pos : ℕ) (x : Bytes) (r : CheckedProof) → T (d .stops (subtree l t)) → _≡_ {A = Result CheckedProof} (ok (stopped (seen e) pos x)) (ok r) → Sound B r (open-tree l d e inside t)
+    stops : (t : Tree A) (pos : ℕ) (x : Bytes) (r : CheckedProof) → T (d .stops (subtree l t)) → _≡_ {A = Result CheckedProof} (ok (stopped (SearchEnd.not-found (d .stop-at (subtree l t))) pos x)) (ok r) → Sound B r (open-tree l d inside t)
     stops t pos x r h q =
-        subst (λ (z : CheckedProof). Sound B z (open-tree l d e inside t)) (ok-inj q)
-        (subst (λ (w : Opened). Sound B (stopped (seen e) pos x) w) (sym (stopped-at l d e inside t h)) (inl (record { ends = refl; opens = refl })))
+        subst (λ (z : CheckedProof). Sound B z (open-tree l d inside t)) (ok-inj q)
+        (subst (λ (w : Opened). Sound B (stopped (SearchEnd.not-found (d .stop-at (subtree l t))) pos x) w) (sym (stopped-at l d inside t h)) (inl (record { ends = refl; opens = refl })))
 
     -- the half that the walk goes to
     half : (f pos : ℕ) (x : Bytes) (s t : Tree A) (r : CheckedProof)
-        → (check-tree l d (seen e) after-leaf f (subtree l s) pos x ≡ ok r → Sound B r (open-tree l d e inside s))
-        → (check-tree l d (seen e) after-leaf f (subtree l t) pos x ≡ ok r → Sound B r (open-tree l d e inside t))
-        → check-tree l d (seen e) after-leaf f (cond (d .goes-left (subtree l s) (subtree l t)) (subtree l s) (subtree l t)) pos x ≡ ok r
-        → Sound B r (cond (d .goes-left (subtree l s) (subtree l t)) (open-tree l d e inside s) (open-tree l d e inside t))
+        → (check-tree l d after-leaf f (subtree l s) pos x ≡ ok r → Sound B r (open-tree l d inside s))
+        → (check-tree l d after-leaf f (subtree l t) pos x ≡ ok r → Sound B r (open-tree l d inside t))
+        → check-tree l d after-leaf f (cond (d .goes-left (subtree l s) (subtree l t)) (subtree l s) (subtree l t)) pos x ≡ ok r
+        → Sound B r (cond (d .goes-left (subtree l s) (subtree l t)) (open-tree l d inside s) (open-tree l d inside t))
     half f pos x s t r on-left on-right q = go (test (d .goes-left (subtree l s) (subtree l t)))
       where
         go : T (d .goes-left (subtree l s) (subtree l t)) ⊎ T (not (d .goes-left (subtree l s) (subtree l t)))
-            → Sound B r (cond (d .goes-left (subtree l s) (subtree l t)) (open-tree l d e inside s) (open-tree l d e inside t))
+            → Sound B r (cond (d .goes-left (subtree l s) (subtree l t)) (open-tree l d inside s) (open-tree l d inside t))
         go (inl g) =
-            subst (λ (w : Opened). Sound B r w) (sym (cond-T (d .goes-left (subtree l s) (subtree l t)) (open-tree l d e inside s) (open-tree l d e inside t) g))
-            (on-left (ap (λ (k : Subtree). check-tree l d (seen e) after-leaf f k pos x) (sym (cond-T (d .goes-left (subtree l s) (subtree l t)) (subtree l s) (subtree l t) g)) ∙ q))
+            subst (λ (w : Opened). Sound B r w) (sym (cond-T (d .goes-left (subtree l s) (subtree l t)) (open-tree l d inside s) (open-tree l d inside t) g))
+            (on-left (ap (λ (k : Subtree). check-tree l d after-leaf f k pos x) (sym (cond-T (d .goes-left (subtree l s) (subtree l t)) (subtree l s) (subtree l t) g)) ∙ q))
         go (inr g) =
-            subst (λ (w : Opened). Sound B r w) (sym (cond-F (d .goes-left (subtree l s) (subtree l t)) (open-tree l d e inside s) (open-tree l d e inside t) g))
-            (on-right (ap (λ (k : Subtree). check-tree l d (seen e) after-leaf f k pos x) (sym (cond-F (d .goes-left (subtree l s) (subtree l t)) (subtree l s) (subtree l t) g)) ∙ q))
+            subst (λ (w : Opened). Sound B r w) (sym (cond-F (d .goes-left (subtree l s) (subtree l t)) (open-tree l d inside s) (open-tree l d inside t) g))
+            (on-right (ap (λ (k : Subtree). check-tree l d after-leaf f k pos x) (sym (cond-F (d .goes-left (subtree l s) (subtree l t)) (subtree l s) (subtree l t) g)) ∙ q))
 
     pub tree-sound : (t : Tree A) → AllTree (Follows l inside after-leaf B) t → KeysFit l t → (f pos : ℕ) (x : Bytes) (r : CheckedProof)
         → ((y : Bytes) → y among strings-of l inside-strings t → y among B)
-        → check-tree l d (seen e) after-leaf f (subtree l t) pos x ≡ ok r → Sound B r (open-tree l d e inside t)
+        → check-tree l d after-leaf f (subtree l t) pos x ≡ ok r → Sound B r (open-tree l d inside t)
     unfolding check-tree strings-of subtree parent string-of
     tree-sound t follows fits zero pos x r into q =
-        by-test (d .stops (subtree l t)) (λ (m : Result CheckedProof). m ≡ ok r → Sound B r (open-tree l d e inside t))
+        by-test (d .stops (subtree l t)) (λ (m : Result CheckedProof). m ≡ ok r → Sound B r (open-tree l d inside t))
         (λ h k. stops t pos x r h k) (λ h k. refuse≢ok k) q
     tree-sound (tip a) follows fits (suc f) pos x r into q =
-        by-test (d .stops (subtree l (tip a))) (λ (m : Result CheckedProof). m ≡ ok r → Sound B r (open-tree l d e inside (tip a)))
+        by-test (d .stops (subtree l (tip a))) (λ (m : Result CheckedProof). m ≡ ok r → Sound B r (open-tree l d inside (tip a)))
         (λ h k. stops (tip a) pos x r h k)
-        (λ h. by-test (eqb (l .key a) (l .key a)) (λ (m : Result CheckedProof). m ≡ ok r → Sound B r (open-tree l d e inside (tip a)))
+        (λ h. by-test (eqb (l .key a) (l .key a)) (λ (m : Result CheckedProof). m ≡ ok r → Sound B r (open-tree l d inside (tip a)))
         (λ _ k.
-        subst (λ (w : Opened). Sound B r w) (sym (opened-tip l d e inside a h))
+        subst (λ (w : Opened). Sound B r w) (sym (opened-tip l d inside a h))
         (sound-string (l .leaf-letter) (l .leaf-width) pos x (l .string a) (λ s. after-leaf s f (pos + l .leaf-width) (drop (l .leaf-width) x)) (inside a) r (letters .wide)
         (into _ (List·Memᴰ·head refl)) (λ r′ o. follows f (pos + l .leaf-width) (drop (l .leaf-width) x) r′ o) k))
         (λ g _. absurd (T-not (eqb (l .key a) (l .key a)) g (eqb-refl (l .key a)))))
         q
     tree-sound (branch s t) follows fits (suc f) pos x r into q =
-        by-test (d .stops (subtree l (branch s t))) (λ (m : Result CheckedProof). m ≡ ok r → Sound B r (open-tree l d e inside (branch s t)))
+        by-test (d .stops (subtree l (branch s t))) (λ (m : Result CheckedProof). m ≡ ok r → Sound B r (open-tree l d inside (branch s t)))
         (λ h k. stops (branch s t) pos x r h k)
-        (λ h. by-test (eqb (subtree l s .least) (subtree l t .greatest)) (λ (m : Result CheckedProof). m ≡ ok r → Sound B r (open-tree l d e inside (branch s t)))
+        (λ h. by-test (eqb (subtree l s .least) (subtree l t .greatest)) (λ (m : Result CheckedProof). m ≡ ok r → Sound B r (open-tree l d inside (branch s t)))
         (λ _ k.
         inr (wrong-letter (l .leaf-letter) (l .leaf-width) pos x (string-of l (branch s t)) (λ s. after-leaf s f (pos + l .leaf-width) (drop (l .leaf-width) x)) r (letters .wide)
         (λ z. letters .differ (sym (branch-letter l s t) ∙ z)) (into _ (List·Memᴰ·head refl)) k))
         (λ _ k.
-        subst (λ (w : Opened). Sound B r w) (sym (opened-branch l d e inside s t h))
+        subst (λ (w : Opened). Sound B r w) (sym (opened-branch l d inside s t h))
         (sound-string (l .inner-letter) branch-width pos x (string-of l (branch s t))
-        (λ y. check-tree l d (seen e) after-leaf f (chosen d y) (pos + branch-width) (drop branch-width x)) _ r (omega arith) (into _ (List·Memᴰ·head refl))
+        (λ y. check-tree l d after-leaf f (chosen d y) (pos + branch-width) (drop branch-width x)) _ r (omega arith) (into _ (List·Memᴰ·head refl))
         (λ r′ o.
         half f (pos + branch-width) (drop branch-width x) s t r′
         (tree-sound s (follows .0) (fits .0) f (pos + branch-width) (drop branch-width x) r′ (λ y m. into y (List·Memᴰ·tail (Memᴰ·append-left (strings-of l inside-strings t) m))))
         (tree-sound t (follows .1) (fits .1) f (pos + branch-width) (drop branch-width x) r′ (λ y m. into y (List·Memᴰ·tail (Memᴰ·append-right (strings-of l inside-strings s) m))))
-        (ap (λ (z : Subtree). check-tree l d (seen e) after-leaf f z (pos + branch-width) (drop branch-width x)) (sym (chosen-is l d s t (fits .0) (fits .1))) ∙ o)) k)))
+        (ap (λ (z : Subtree). check-tree l d after-leaf f z (pos + branch-width) (drop branch-width x)) (sym (chosen-is l d s t (fits .0) (fits .1))) ∙ o)) k)))
         q
 
 -- ---- the two trees and the root
@@ -351,12 +350,12 @@ version-strings t = strings-of versions-layout (λ _. []) t
 abbrev pub entity-strings : Tree Group → List Bytes
 entity-strings t = strings-of entities-layout (λ (g : Group). version-strings (g .versions)) t
 
-pub versions-sound : (t : Tree VersionLeaf) → AllTree VersionFits t → (time f pos : ℕ) (x : Bytes) (r : CheckedProof) (B : List Bytes)
+pub versions-sound : (t : Tree VersionLeaf) → AllTree VersionFits t → (rel : Relation) (time f pos : ℕ) (x : Bytes) (r : CheckedProof) (B : List Bytes)
     → ((y : Bytes) → y among version-strings t → y among B)
-    → check-versions at-or-before time f (subtree versions-layout t) pos x ≡ ok r → Sound B r (open-versions at-or-before time t)
+    → check-versions rel time f (subtree versions-layout t) pos x ≡ ok r → Sound B r (open-versions rel time t)
 unfolding check-versions open-versions
-versions-sound t fits time f pos x r B into q =
-    tree-sound versions-layout versions-letters (by-time at-or-before time) SearchEnd.not-yet (λ (v : VersionLeaf). stop (SearchEnd.found v))
+versions-sound t fits rel time f pos x r B into q =
+    tree-sound versions-layout versions-letters (by-time rel time) (λ (v : VersionLeaf). stop (SearchEnd.found v))
     (λ s f pos x. ok (stopped (SearchEnd.found (leaf-in s)) pos x)) (λ _. []) B t (all-tree follows t fits) (version-keys t fits) f pos x r into q
   where
     follows : (v : VersionLeaf) → VersionFits v
@@ -365,44 +364,46 @@ versions-sound t fits time f pos x r B into q =
         subst (λ (z : CheckedProof). Sound B z (stop (SearchEnd.found v))) (ok-inj o)
         (inl (record { ends = ap (λ (l : Leaf). SearchEnd.found l) (leaf-back (v .leaf) h); opens = refl }))
 
--- the question at or before t
-abbrev pub asked : Part → ℕ → ℕ → Question
-asked p s t = record { relation = at-or-before; part = p; entity = s; time = t }
+-- what follows an entity's G string, in the defined walk and in the check
+abbrev pub open-group : Question → Group → Opened
+open-group ask g = open-versions (ask .relation) (ask .time) (g .versions)
 
-pub entities-sound : (t : Tree Group) → AllTree GroupFits t → (p : Part) (s time f pos : ℕ) (x : Bytes) (r : CheckedProof) (B : List Bytes)
+abbrev pub check-group : Question → Bytes → ℕ → ℕ → Bytes → Result CheckedProof
+check-group ask s f pos x = check-versions (ask .relation) (ask .time) f (subtree-in s 9) pos x
+
+pub entities-sound : (t : Tree Group) → AllTree GroupFits t → (ask : Question) (f pos : ℕ) (x : Bytes) (r : CheckedProof) (B : List Bytes)
     → ((y : Bytes) → y among entity-strings t → y among B)
-    → check-entities (asked p s time) f (subtree entities-layout t) pos x ≡ ok r → Sound B r (open-entities (asked p s time) t)
+    → check-entities ask f (subtree entities-layout t) pos x ≡ ok r → Sound B r (open-entities ask t)
 unfolding check-entities open-entities strings-of
-entities-sound t fits p s time f pos x r B into q =
-    tree-sound entities-layout entities-letters (by-entity s) SearchEnd.no-entity (λ (g : Group). open-versions at-or-before time (g .versions))
-    (λ s f pos x. check-versions at-or-before time f (subtree-in s 9) pos x) (λ (g : Group). version-strings (g .versions)) B t
+entities-sound t fits ask f pos x r B into q =
+    tree-sound entities-layout entities-letters (by-entity (ask .entity)) (open-group ask) (check-group ask) (λ (g : Group). version-strings (g .versions)) B t
     (follows-all t fits into) (group-keys t fits) f pos x r into q
   where
     follows : (g : Group) → GroupFits g → ((y : Bytes) → y among version-strings (g .versions) → y among B)
-        → Follows entities-layout (λ (g : Group). open-versions at-or-before time (g .versions)) (λ s f pos x. check-versions at-or-before time f (subtree-in s 9) pos x) B g
+        → Follows entities-layout (open-group ask) (check-group ask) B g
     follows g h into f pos x r o =
-        versions-sound (g .versions) (h .versions-fit) time f pos x r B into
-        (ap (λ (k : Subtree). check-versions at-or-before time f k pos x) (sym (group-back (g .entity) (subtree versions-layout (g .versions)) (versions-known (g .versions) (h .versions-fit)))) ∙ o)
+        versions-sound (g .versions) (h .versions-fit) (ask .relation) (ask .time) f pos x r B into
+        (ap (λ (k : Subtree). check-versions (ask .relation) (ask .time) f k pos x) (sym (group-back (g .entity) (subtree versions-layout (g .versions)) (versions-known (g .versions) (h .versions-fit)))) ∙ o)
 
     follows-all : (t : Tree Group) → AllTree GroupFits t → ((y : Bytes) → y among entity-strings t → y among B)
-        → AllTree (Follows entities-layout (λ (g : Group). open-versions at-or-before time (g .versions)) (λ s f pos x. check-versions at-or-before time f (subtree-in s 9) pos x) B) t
+        → AllTree (Follows entities-layout (open-group ask) (check-group ask) B) t
     follows-all (tip g) h into = follows g h (λ y m. into y (List·Memᴰ·tail m))
     follows-all (branch a b) h into =
         (follows-all a (h .0) (λ y m. into y (List·Memᴰ·tail (Memᴰ·append-left (entity-strings b) m))), follows-all b (h .1) (λ y m. into y (List·Memᴰ·tail (Memᴰ·append-right (entity-strings a) m))))
 
 -- the proof of a root over a tree of entities
-pub proof-sound : {B : List Bytes} (h : Header) (n : ℕ) (t : Tree Group) → AllTree GroupFits t → (p : Part) (s time pos : ℕ) (x : Bytes) (r : CheckedProof)
+pub proof-sound : {B : List Bytes} (h : Header) (n : ℕ) (t : Tree Group) → AllTree GroupFits t → (ask : Question) (pos : ℕ) (x : Bytes) (r : CheckedProof)
     → ((y : Bytes) → y among root-string h n (subtree entities-layout t) ∷ entity-strings t → y among B)
-    → check-proof (h .letter) (asked p s time) (H (root-string h n (subtree entities-layout t))) pos x ≡ ok r
-    → Sound B r (after (root-string h n (subtree entities-layout t)) (open-entities (asked p s time) t))
+    → check-proof (h .letter) ask (H (root-string h n (subtree entities-layout t))) pos x ≡ ok r
+    → Sound B r (after (root-string h n (subtree entities-layout t)) (open-entities ask t))
 unfolding check-proof
-proof-sound {B} h n t fits p s time pos x r into q =
+proof-sound {B} h n t fits ask pos x r into q =
     sound-string (h .letter) R-width pos x (root-string h n (subtree entities-layout t))
-    (λ y. check-entities (asked p s time) (length x) (subtree-in y 17) (pos + R-width) (drop R-width x)) (open-entities (asked p s time) t) r (omega arith)
+    (λ y. check-entities ask (length x) (subtree-in y 17) (pos + R-width) (drop R-width x)) (open-entities ask t) r (omega arith)
     (into _ (List·Memᴰ·head refl))
     (λ r′ o.
-    entities-sound t fits p s time (length x) (pos + R-width) (drop R-width x) r′ B (λ y m. into y (List·Memᴰ·tail m))
-    (ap (λ (k : Subtree). check-entities (asked p s time) (length x) k (pos + R-width) (drop R-width x)) (sym (root-back h n (subtree entities-layout t) (entities-known t fits))) ∙ o)) q
+    entities-sound t fits ask (length x) (pos + R-width) (drop R-width x) r′ B (λ y m. into y (List·Memᴰ·tail m))
+    (ap (λ (k : Subtree). check-entities ask (length x) k (pos + R-width) (drop R-width x)) (sym (root-back h n (subtree entities-layout t) (entities-known t fits))) ∙ o)) q
 
 -- ---- the bytes: an accepted walk used up the strings that it opened
 
@@ -434,32 +435,32 @@ used-string letter w pos due x r g p q ih =
     let t = taken letter w due pos x (o .0) p (o .1) in
     subst (λ (z : CheckedProof). Used pos x z) (ok-inj (k .2)) (used-one pos w x (o .0) (k .0) (t .is) (t .long) (ih (o .0) (k .0) (k .1)))
 
-tree-used : {A : Type 0} (l : Layout A) → 0 < l .leaf-width → (d : Descent) (e : SearchEnd Leaf) (after-leaf : Bytes → ℕ → ℕ → Bytes → Result CheckedProof)
+tree-used : {A : Type 0} (l : Layout A) → 0 < l .leaf-width → (d : Descent) (after-leaf : Bytes → ℕ → ℕ → Bytes → Result CheckedProof)
     → ((s : Bytes) (f pos : ℕ) (x : Bytes) (r : CheckedProof) → after-leaf s f pos x ≡ ok r → Used pos x r)
-    → (f : ℕ) (k : Subtree) (pos : ℕ) (x : Bytes) (r : CheckedProof) → check-tree l d e after-leaf f k pos x ≡ ok r → Used pos x r
+    → (f : ℕ) (k : Subtree) (pos : ℕ) (x : Bytes) (r : CheckedProof) → check-tree l d after-leaf f k pos x ≡ ok r → Used pos x r
 unfolding check-tree
-tree-used l w d e after-leaf ih zero k pos x r q =
+tree-used l w d after-leaf ih zero k pos x r q =
     by-test (d .stops k) (λ (m : Result CheckedProof). m ≡ ok r → Used pos x r)
-    (λ _ o. subst (λ (z : CheckedProof). Used pos x z) (ok-inj o) (used-none e pos x)) (λ _ o. refuse≢ok o) q
-tree-used l w d e after-leaf ih (suc f) k pos x r q =
+    (λ _ o. subst (λ (z : CheckedProof). Used pos x z) (ok-inj o) (used-none _ pos x)) (λ _ o. refuse≢ok o) q
+tree-used l w d after-leaf ih (suc f) k pos x r q =
     by-test (d .stops k) (λ (m : Result CheckedProof). m ≡ ok r → Used pos x r)
-    (λ _ o. subst (λ (z : CheckedProof). Used pos x z) (ok-inj o) (used-none e pos x))
+    (λ _ o. subst (λ (z : CheckedProof). Used pos x z) (ok-inj o) (used-none _ pos x))
     (λ _. by-test (eqb (k .least) (k .greatest)) (λ (m : Result CheckedProof). m ≡ ok r → Used pos x r)
     (λ _ o. used-string (l .leaf-letter) (l .leaf-width) pos (k .digest) x r _ w o (λ s r′ q′. ih s f (pos + l .leaf-width) (drop (l .leaf-width) x) r′ q′))
     (λ _ o. used-string (l .inner-letter) branch-width pos (k .digest) x r _ (omega arith) o
-    (λ s r′ q′. tree-used l w d e after-leaf ih f _ (pos + branch-width) (drop branch-width x) r′ q′)))
+    (λ s r′ q′. tree-used l w d after-leaf ih f _ (pos + branch-width) (drop branch-width x) r′ q′)))
     q
 
-versions-used : (time f : ℕ) (k : Subtree) (pos : ℕ) (x : Bytes) (r : CheckedProof) → check-versions at-or-before time f k pos x ≡ ok r → Used pos x r
+versions-used : (rel : Relation) (time f : ℕ) (k : Subtree) (pos : ℕ) (x : Bytes) (r : CheckedProof) → check-versions rel time f k pos x ≡ ok r → Used pos x r
 unfolding check-versions
-versions-used time f k pos x r q =
-    tree-used versions-layout (omega arith) (by-time at-or-before time) SearchEnd.not-yet (λ s f pos x. ok (stopped (SearchEnd.found (leaf-in s)) pos x))
+versions-used rel time f k pos x r q =
+    tree-used versions-layout (omega arith) (by-time rel time) (λ s f pos x. ok (stopped (SearchEnd.found (leaf-in s)) pos x))
     (λ s f pos x r o. subst (λ (z : CheckedProof). Used pos x z) (ok-inj o) (used-none _ pos x)) f k pos x r q
 
-pub proof-used : (letter : ℕ) (p : Part) (s time : ℕ) (due : Bytes) (pos : ℕ) (x : Bytes) (r : CheckedProof) → check-proof letter (asked p s time) due pos x ≡ ok r → Used pos x r
+pub proof-used : (letter : ℕ) (ask : Question) (due : Bytes) (pos : ℕ) (x : Bytes) (r : CheckedProof) → check-proof letter ask due pos x ≡ ok r → Used pos x r
 unfolding check-proof check-entities
-proof-used letter p s time due pos x r q =
+proof-used letter ask due pos x r q =
     used-string letter R-width pos due x r _ (omega arith) q
     (λ y r′ o.
-    tree-used entities-layout (omega arith) (by-entity s) SearchEnd.no-entity (λ s f pos x. check-versions at-or-before time f (subtree-in s 9) pos x)
-    (λ y f pos x r k. versions-used time f (subtree-in y 9) pos x r k) (length x) _ (pos + R-width) (drop R-width x) r′ o)
+    tree-used entities-layout (omega arith) (by-entity (ask .entity)) (check-group ask)
+    (λ y f pos x r k. versions-used (ask .relation) (ask .time) f (subtree-in y 9) pos x r k) (length x) _ (pos + R-width) (drop R-width x) r′ o)

@@ -1,21 +1,19 @@
--- One step of a walk: where it stops, and the side on which it goes on. Assumes nothing.
-use mathlib.Core.Path.{_≡_, sym, ap, _∙_, subst}
+-- The rules of the walks: where one stops, and the side on which it goes on. Assumes nothing.
+use mathlib.Core.Path.{_≡_, refl, sym, ap, _∙_}
 use mathlib.Core.Bool.{Bool, true, false}
-use Prim.Native.Nat.{ℕ, _+_, _≤_}
+use Prim.Native.Nat.{ℕ, _+_}
 use borrow.Author.Tests.{le-leb, lt-leb, ltb-true, ltb-false}
 use lib.Dec.{ltb}
-use lib.ListN.{length}
 use Rattle.fields.specs.Fields.{field}
 use Rattle.model.specs.Numbers.{Bytes}
-use Rattle.model.specs.Accumulator.{Layout}
-use Rattle.model.specs.Question.{at-or-before, Descent, by-entity, by-time}
+use Rattle.model.specs.Question.{Descent, by-entity, by-time}
 use Rattle.model.specs.CheckRows.{subtree-in}
-use Rattle.proof_reader.specs.declared.Opening.{Opening}
-use Rattle.proof_reader.specs.declared.Opening.the-variants.{Leaf as LeafTaken, Inner as InnerTaken, Refused as Unopened}
-use Rattle.proof_reader.specs.declared.Step.the-variants.{Stops, Leaf as ToLeaf, Inner as ToSide, Refused as Halted}
-use Rattle.proof_reader.specs.Walks.{Opens, at-inner, side-of, Steps, stops, to-leaf, to-side, halted}
-
--- ---- by the keys
+use Rattle.question.specs.declared.TimeKey.{TimeKey}
+use Rattle.question.specs.declared.Relation.{Relation}
+use Rattle.question.specs.declared.Relation.the-variants.{AtOrBefore, AtOrAfter}
+use Rattle.question.specs.Directions.{relationOf}
+use Rattle.proof_reader.specs.declared.Stop.the-variants.{NoEntity, NotYet, NoneSoLate}
+use Rattle.proof_reader.specs.Walks.{side-of, stopOf}
 
 module _ (answer : Bytes) (tree s least : ℕ) (l : least ≡ field 8 answer tree) (b : Bool) (below : b ≡ ltb s least) where
   pub below-least : b ≡ true → true ≡ by-entity s .stops (subtree-in answer tree)
@@ -27,11 +25,37 @@ module _ (answer : Bytes) (tree s least : ℕ) (l : least ≡ field 8 answer tre
   unfolding by-entity subtree-in
   above-greatest e greatest g r above = simp (sym l, sym below ∙ e, sym g) above
 
-  pub before-least : b ≡ by-time at-or-before s .stops (subtree-in answer tree)
-  unfolding by-time subtree-in
-  before-least = below ∙ ap (ltb s) l
+-- no entity has a key to hand on
+pub no-entity-stop : (answer : Bytes) (tree s : ℕ) → NoEntity ≡ stopOf (by-entity s .stop-at (subtree-in answer tree))
+unfolding by-entity stopOf
+no-entity-stop answer tree s = refl
 
--- "going left if s is at most the left's greatest key, else right"
+-- by the relation
+abbrev rules : Relation → ℕ → Descent
+rules r t = by-time (relationOf r) t
+
+module _ (answer : Bytes) (r : Relation) where
+  -- "if t is below the least key, stop: not yet"
+  module _ (back : r ≡ AtOrBefore) (tree : ℕ) (least : TimeKey) (l : least .0 ≡ field 8 answer tree) where
+    pub back-stops : (t : ℕ) (b : Bool) → b ≡ ltb t (least .0) → b ≡ rules r t .stops (subtree-in answer tree)
+    unfolding by-time subtree-in relationOf
+    back-stops t b below = below ∙ ap (ltb t) l ∙ ap (λ (x : Relation). rules x t .stops (subtree-in answer tree)) (sym back)
+
+    pub back-stop : (t : ℕ) → NotYet least ≡ stopOf (rules r t .stop-at (subtree-in answer tree))
+    unfolding by-time subtree-in relationOf stopOf
+    back-stop t = ap (λ (x : ℕ). NotYet (record { 0 = x })) l ∙ ap (λ (x : Relation). stopOf (rules x t .stop-at (subtree-in answer tree))) (sym back)
+
+  -- "if t is above the greatest key"
+  module _ (ahead : r ≡ AtOrAfter) (tree : ℕ) (greatest : TimeKey) (g : greatest .0 ≡ field 8 answer (tree + 8)) where
+    pub ahead-stops : (t : ℕ) (b : Bool) → b ≡ ltb (greatest .0) t → b ≡ rules r t .stops (subtree-in answer tree)
+    unfolding by-time subtree-in relationOf
+    ahead-stops t b above = above ∙ ap (λ (x : ℕ). ltb x t) g ∙ ap (λ (x : Relation). rules x t .stops (subtree-in answer tree)) (sym ahead)
+
+    pub ahead-stop : (t : ℕ) → NoneSoLate greatest ≡ stopOf (rules r t .stop-at (subtree-in answer tree))
+    unfolding by-time subtree-in relationOf stopOf
+    ahead-stop t = ap (λ (x : ℕ). NoneSoLate (record { 0 = x })) g ∙ ap (λ (x : Relation). stopOf (rules x t .stop-at (subtree-in answer tree))) (sym ahead)
+
+-- "going left if s is at most the left's greatest key, else right": by an entity, and by a time looking ahead
 module _ (answer : Bytes) (at s greatest : ℕ) (g : greatest ≡ field 8 answer (at + 1 + 8)) (b : Bool) (above : b ≡ ltb greatest s) where
   pub entity-right : b ≡ true → at + 49 ≡ side-of (by-entity s) answer at
   unfolding side-of by-entity subtree-in
@@ -41,40 +65,20 @@ module _ (answer : Bytes) (at s greatest : ℕ) (g : greatest ≡ field 8 answer
   unfolding side-of by-entity subtree-in
   entity-left e = simp (sym g, le-leb s greatest (ltb-false greatest s (sym above ∙ e)))
 
+  pub ahead-right : (r : Relation) → r ≡ AtOrAfter → b ≡ true → at + 49 ≡ side-of (rules r s) answer at
+  unfolding side-of by-entity by-time relationOf
+  ahead-right r ahead e = entity-right e ∙ ap (λ (x : Relation). side-of (rules x s) answer at) (sym ahead)
+
+  pub ahead-left : (r : Relation) → r ≡ AtOrAfter → b ≡ false → at + 1 ≡ side-of (rules r s) answer at
+  unfolding side-of by-entity by-time relationOf
+  ahead-left r ahead e = entity-left e ∙ ap (λ (x : Relation). side-of (rules x s) answer at) (sym ahead)
+
 -- "going right if t is at least the right's least key, else left"
-module _ (answer : Bytes) (at t least : ℕ) (l : least ≡ field 8 answer (at + 49)) (b : Bool) (below : b ≡ ltb t least) where
-  pub version-left : b ≡ true → at + 1 ≡ side-of (by-time at-or-before t) answer at
-  unfolding side-of by-time subtree-in
-  version-left e = simp (sym l, lt-leb least t (ltb-true t least (sym below ∙ e)))
+module _ (answer : Bytes) (at t least : ℕ) (l : least ≡ field 8 answer (at + 49)) (b : Bool) (below : b ≡ ltb t least) (r : Relation) (back : r ≡ AtOrBefore) where
+  pub back-left : b ≡ true → at + 1 ≡ side-of (rules r t) answer at
+  unfolding side-of by-time subtree-in relationOf
+  back-left e = simp (back, sym l, lt-leb least t (ltb-true t least (sym below ∙ e)))
 
-  pub version-right : b ≡ false → at + 49 ≡ side-of (by-time at-or-before t) answer at
-  unfolding side-of by-time subtree-in
-  version-right e = simp (sym l, le-leb least t (ltb-false t least (sym below ∙ e)))
-
--- ---- by the string
-
--- room for the two subtrees
-pub inner-inside : (leaf width inner : ℕ) (answer : Bytes) (at known : ℕ) (r : Opening) → Opens leaf width inner answer at (subtree-in answer known) r
-    → r ≡ InnerTaken → at + 97 ≤ length answer
-inner-inside leaf width inner answer at known r o e =
-    go (subst (λ (x : Opening). Opens leaf width inner answer at (subtree-in answer known) x) e o)
-  where
-    go : Opens leaf width inner answer at (subtree-in answer known) InnerTaken → at + 97 ≤ length answer
-    go (at-inner k p) = p .inside
-
-module _ {A : Type 0} (l : Layout A) (d : Descent) (answer : Bytes) (at known : ℕ) (b : Bool) (tested : b ≡ d .stops (subtree-in answer known)) where
-  pub step-stops : b ≡ true → Steps l d answer at known Stops
-  step-stops e = stops (sym tested ∙ e)
-
-  module _ (goes : b ≡ false) (r : Opening) (o : Opens (l .leaf-letter) (l .leaf-width) (l .inner-letter) answer at (subtree-in answer known) r) where
-    opens : (x : Opening) → r ≡ x → Opens (l .leaf-letter) (l .leaf-width) (l .inner-letter) answer at (subtree-in answer known) x
-    opens x e = subst (λ (y : Opening). Opens (l .leaf-letter) (l .leaf-width) (l .inner-letter) answer at (subtree-in answer known) y) e o
-
-    pub step-halts : (n : ℕ) → r ≡ Unopened n → Steps l d answer at known (Halted n)
-    step-halts n e = halted n (sym tested ∙ goes) (opens (Unopened n) e)
-
-    pub step-to-leaf : r ≡ LeafTaken → Steps l d answer at known ToLeaf
-    step-to-leaf e = to-leaf (sym tested ∙ goes) (opens LeafTaken e)
-
-    pub step-to-side : r ≡ InnerTaken → (side : ℕ) → side ≡ side-of d answer at → Steps l d answer at known (ToSide side)
-    step-to-side e side s = to-side side (sym tested ∙ goes) (opens InnerTaken e) s
+  pub back-right : b ≡ false → at + 49 ≡ side-of (rules r t) answer at
+  unfolding side-of by-time subtree-in relationOf
+  back-right e = simp (back, sym l, le-leb least t (ltb-false t least (sym below ∙ e)))

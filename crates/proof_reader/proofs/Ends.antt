@@ -6,14 +6,16 @@ use lib.ListN.{take, drop}
 use Rattle.model.specs.Numbers.{Bytes}
 use Rattle.model.specs.Result.{Result, refuse, _>>=_}
 use Rattle.model.specs.Accumulator.{Leaf}
+use Rattle.model.specs.Question as model
 use Rattle.model.specs.Question.{Part, SearchEnd}
-use Rattle.model.specs.CheckRows.{CheckedProof, stopped, leaf-in, check-end}
+use Rattle.model.specs.CheckRows.{CheckedProof, stopped as ended, leaf-in, check-end}
 use Rattle.model.specs.Calls.{verdict-of}
 use Rattle.model.proofs.Outcomes.{bind-eq}
 use Rattle.model.proofs.CheckSteps.{bare, without-opened, end-without, verdict-without}
+use Rattle.proof_reader.specs.declared.Stop.{Stop}
 use Rattle.proof_reader.specs.declared.Proof.{Proof}
-use Rattle.proof_reader.specs.declared.Proof.the-variants.{NoEntity, NotYet, Found, Refused}
-use Rattle.proof_reader.specs.Walks.{Gives, ProofIs, no-entity, not-yet, found, refused}
+use Rattle.proof_reader.specs.declared.Proof.the-variants.{Stopped, Found, Refused}
+use Rattle.proof_reader.specs.Walks.{stopOf, Gives, ProofIs, stopped, found, refused}
 
 -- ---- by the reader's answer
 
@@ -21,17 +23,11 @@ module _ (answer : Bytes) (m : Result CheckedProof) (r : Proof) (P : ProofIs ans
   answer-is : (x : Proof) → r ≡ x → ProofIs answer m x
   answer-is x q = subst (λ (y : Proof). ProofIs answer m y) q P
 
-  pub no-entity-is : (at : ℕ) → r ≡ NoEntity at → Gives answer m SearchEnd.no-entity at
-  no-entity-is at q = go (answer-is (NoEntity at) q)
+  pub stopped-is : (s : Stop) (at : ℕ) → r ≡ Stopped s at → (e : model.Stop) × (s ≡ stopOf e) × Gives answer m (SearchEnd.not-found e) at
+  stopped-is s at q = go (answer-is (Stopped s at) q)
     where
-      go : ProofIs answer m (NoEntity at) → Gives answer m SearchEnd.no-entity at
-      go (no-entity _ g) = g
-
-  pub not-yet-is : (at : ℕ) → r ≡ NotYet at → Gives answer m SearchEnd.not-yet at
-  not-yet-is at q = go (answer-is (NotYet at) q)
-    where
-      go : ProofIs answer m (NotYet at) → Gives answer m SearchEnd.not-yet at
-      go (not-yet _ g) = g
+      go : ProofIs answer m (Stopped s at) → (e : model.Stop) × (s ≡ stopOf e) × Gives answer m (SearchEnd.not-found e) at
+      go (stopped _ e _ k g) = (e, k, g)
 
   pub found-is : (leaf at : ℕ) → r ≡ Found leaf at → (at ≡ leaf + 77) × Gives answer m (SearchEnd.found (leaf-in (take 77 (drop leaf answer)))) at
   found-is leaf at q = go (answer-is (Found leaf at) q)
@@ -48,15 +44,15 @@ module _ (answer : Bytes) (m : Result CheckedProof) (r : Proof) (P : ProofIs ans
 -- ---- without the strings opened
 
 module _ (answer : Bytes) (m : Result CheckedProof) (e : SearchEnd Leaf) (at : ℕ) (g : Gives answer m e at) (p : Part) (work : ℕ) where
-  bare-is : bare (g .proof) ≡ stopped e at (drop at answer)
+  bare-is : bare (g .proof) ≡ ended e at (drop at answer)
   bare-is = simp (g .end-is, g .pos-is, g .rest-is)
 
-  pub run-without : without-opened (m >>= λ r. check-end p work r (r .end)) ≡ without-opened (check-end p work (stopped e at (drop at answer)) e)
+  pub run-without : without-opened (m >>= λ r. check-end p work r (r .end)) ≡ without-opened (check-end p work (ended e at (drop at answer)) e)
   run-without =
       ap without-opened (bind-eq m _ (g .proof) (g .is))
       ∙ end-without p work (g .proof) (g .proof .end)
       ∙ ap (λ (r : CheckedProof). without-opened (check-end p work r (r .end))) bare-is
 
   -- the check's verdict, by how the proof ended and the byte behind it
-  pub end-verdict : verdict-of (m >>= λ r. check-end p work r (r .end)) ≡ verdict-of (check-end p work (stopped e at (drop at answer)) e)
-  end-verdict = sym (verdict-without (m >>= λ r. check-end p work r (r .end))) ∙ ap verdict-of run-without ∙ verdict-without (check-end p work (stopped e at (drop at answer)) e)
+  pub end-verdict : verdict-of (m >>= λ r. check-end p work r (r .end)) ≡ verdict-of (check-end p work (ended e at (drop at answer)) e)
+  end-verdict = sym (verdict-without (m >>= λ r. check-end p work r (r .end))) ∙ ap verdict-of run-without ∙ verdict-without (check-end p work (ended e at (drop at answer)) e)

@@ -11,17 +11,19 @@ use Rattle.fields.proofs.Places.{part-all}
 use Rattle.model.specs.Numbers.{Bytes}
 use Rattle.model.specs.Result.{Result, ok, refuse, _>>=_}
 use Rattle.model.specs.Accumulator.{branch-width, Subtree, Leaf, Layout, VersionLeaf, versions-layout, Group, entities-layout}
-use Rattle.model.specs.Question.{Relation, at-or-before, Question, SearchEnd, Descent, by-entity, by-time, version-only}
-use Rattle.model.specs.CheckRows.{take-string, CheckedProof, stopped, opening, subtree-in, chosen, leaf-in, check-tree, check-versions, check-entities, check-proof}
+use Rattle.model.specs.Question.{Relation, Question, SearchEnd, Descent, by-entity, by-time}
+use Rattle.model.specs.CheckRows.{take-string, CheckedProof, stopped as ended, opening, subtree-in, chosen, leaf-in, check-tree, check-versions, check-entities, check-proof}
 use Rattle.model.proofs.Outcomes.{bind-eq, bind-refused}
 use Rattle.model.proofs.CheckSteps.{tree-step, versions-fuel, entities-fuel}
 use Rattle.proof_reader.specs.declared.Taking.{Taking}
 use Rattle.proof_reader.specs.declared.Taking.the-variants.{Taken, Refused as Cut}
-use Rattle.proof_reader.specs.declared.Step.{Step}
-use Rattle.proof_reader.specs.declared.Step.the-variants.{Stops, Leaf as ToLeaf, Inner as ToSide, Refused as Halted}
+use Rattle.proof_reader.specs.declared.Opening.{Opening}
+use Rattle.proof_reader.specs.declared.Opening.the-variants.{Leaf as LeafTaken, Inner as InnerTaken, Refused as Unopened}
+use Rattle.proof_reader.specs.declared.Stop.{Stop}
+use Rattle.proof_reader.specs.declared.Stop.the-variants.{NoEntity}
 use Rattle.proof_reader.specs.declared.Proof.{Proof}
-use Rattle.proof_reader.specs.declared.Proof.the-variants.{NoEntity, NotYet, Found, Refused}
-use Rattle.proof_reader.specs.Walks.{Passes, Takes, at-leaf, at-inner, unopened, string-due, side-of, Steps, stops, to-leaf, to-side, halted, versions-at, entities-at, Gives, ProofIs, no-entity, not-yet, found, refused}
+use Rattle.proof_reader.specs.declared.Proof.the-variants.{Stopped, Found, Refused}
+use Rattle.proof_reader.specs.Walks.{Passes, Takes, Opens, at-leaf, at-inner, unopened, string-due, side-of, stopOf, versions-at, entities-at, Gives, ProofIs, stopped, found, refused}
 use Rattle.proof_reader.proofs.Strings.{passed, not-passed, subtree-at}
 
 -- ---- a string opened before
@@ -39,8 +41,7 @@ gives-opening answer m e at s g =
     }
 
 is-opening : (answer : Bytes) (m : Result CheckedProof) (s : Bytes) (r : Proof) → ProofIs answer m r → ProofIs answer (m >>= λ p. ok (opening s p)) r
-is-opening answer m s r (no-entity at g) = no-entity at (gives-opening answer m _ at s g)
-is-opening answer m s r (not-yet at g) = not-yet at (gives-opening answer m _ at s g)
+is-opening answer m s r (stopped x e at k g) = stopped x e at k (gives-opening answer m _ at s g)
 is-opening answer m s r (found leaf at e g) = found leaf at e (gives-opening answer m _ at s g)
 is-opening answer m s r (refused n p e) = refused n p (bind-refused m _ n p e)
 
@@ -50,7 +51,6 @@ is-opening answer m s r (refused n p e) = refused n p (bind-refused m _ n p e)
 record Rules (A : Type 0) : Type 0 where
   pub layout : Layout A
   pub descent : Descent
-  pub end : SearchEnd Leaf
   pub leaf : Bytes → ℕ → ℕ → Bytes → Result CheckedProof
   pub wide : 0 < layout .leaf-width
   pub fuel : (s : Bytes) (f g pos : ℕ) (x : Bytes) → length x ≤ f → length x ≤ g → leaf s f pos x ≡ leaf s g pos x
@@ -58,7 +58,7 @@ record Rules (A : Type 0) : Type 0 where
 -- the walk from byte `at` on, in the subtree at byte `known`
 abbrev tree-from : {A : Type 0} → Rules A → Bytes → ℕ → ℕ → Result CheckedProof
 tree-from R answer at known =
-    check-tree (R .layout) (R .descent) (R .end) (R .leaf) (length (drop at answer)) (subtree-in answer known) at (drop at answer)
+    check-tree (R .layout) (R .descent) (R .leaf) (length (drop at answer)) (subtree-in answer known) at (drop at answer)
 
 cond-refused : {X Y : Type 0} (b : Bool) (m n : Result X) (f g : X → Result Y) (number p : ℕ) → cond b m n ≡ refuse number p
     → cond b (m >>= f) (n >>= g) ≡ refuse number p
@@ -86,18 +86,18 @@ side-room d answer at h = go (d .goes-left (subtree-in answer (at + 1)) (subtree
 
 module _ {A : Type 0} (R : Rules A) (answer : Bytes) (at known : ℕ) where
   next : tree-from R answer at known
-      ≡ cond (R .descent .stops (subtree-in answer known)) (ok (stopped (R .end) at (drop at answer)))
+      ≡ cond (R .descent .stops (subtree-in answer known)) (ok (ended (SearchEnd.not-found (R .descent .stop-at (subtree-in answer known))) at (drop at answer)))
       (cond (eqb (subtree-in answer known .least) (subtree-in answer known .greatest))
       (take-string (R .layout .leaf-letter) (R .layout .leaf-width) (subtree-in answer known .digest) at (drop at answer) >>= λ s.
       R .leaf s (length (drop (R .layout .leaf-width) (drop at answer))) (at + R .layout .leaf-width) (drop (R .layout .leaf-width) (drop at answer)) >>= λ r.
       ok (opening s r))
       (take-string (R .layout .inner-letter) branch-width (subtree-in answer known .digest) at (drop at answer) >>= λ s.
-      check-tree (R .layout) (R .descent) (R .end) (R .leaf) (length (drop branch-width (drop at answer))) (chosen (R .descent) s) (at + branch-width) (drop branch-width (drop at answer)) >>= λ r.
+      check-tree (R .layout) (R .descent) (R .leaf) (length (drop branch-width (drop at answer))) (chosen (R .descent) s) (at + branch-width) (drop branch-width (drop at answer)) >>= λ r.
       ok (opening s r)))
   next =
-      tree-step (R .layout) (R .descent) (R .end) (R .leaf) (R .wide) (R .fuel) (length (drop at answer)) (subtree-in answer known) at (drop at answer) (omega arith)
+      tree-step (R .layout) (R .descent) (R .leaf) (R .wide) (R .fuel) (length (drop at answer)) (subtree-in answer known) at (drop at answer) (omega arith)
 
-  tree-stops : R .descent .stops (subtree-in answer known) ≡ true → tree-from R answer at known ≡ ok (stopped (R .end) at (drop at answer))
+  tree-stops : R .descent .stops (subtree-in answer known) ≡ true → tree-from R answer at known ≡ ok (ended (SearchEnd.not-found (R .descent .stop-at (subtree-in answer known))) at (drop at answer))
   tree-stops h = next ∙ simp (h)
 
   module _ (goes : R .descent .stops (subtree-in answer known) ≡ false) where
@@ -127,29 +127,32 @@ module _ {A : Type 0} (R : Rules A) (answer : Bytes) (at known : ℕ) where
         next
         ∙ simp (goes, k) (bind-eq _ _ s (p .is))
         ∙ ap₂
-        (λ (x : Bytes) (y : Subtree). check-tree (R .layout) (R .descent) (R .end) (R .leaf) (length x) y (at + branch-width) x >>= λ r. ok (opening s r))
+        (λ (x : Bytes) (y : Subtree). check-tree (R .layout) (R .descent) (R .leaf) (length x) y (at + branch-width) x >>= λ r. ok (opening s r))
         (drop-drop branch-width at answer) (chosen-at (R .descent) answer at (p .inside))
 
--- ---- by the step that was made
+-- ---- by the string that was opened
 
--- a string that was taken lies inside the answer
-module _ {A : Type 0} (l : Layout A) (d : Descent) (answer : Bytes) (at known : ℕ) where
-  leaf-inside : Steps l d answer at known ToLeaf → at + l .leaf-width ≤ length answer
-  leaf-inside (to-leaf t (at-leaf k h)) = h .inside
+module _ (leaf width inner : ℕ) (answer : Bytes) (at known : ℕ) where
+  leaf-inside : Opens leaf width inner answer at (subtree-in answer known) LeafTaken → at + width ≤ length answer
+  leaf-inside (at-leaf k h) = h .inside
 
-  side-inside : (k : ℕ) → Steps l d answer at known (ToSide k) → (at + 97 ≤ length answer) × (k + 48 ≤ length answer)
-  side-inside k (to-side _ t (at-inner n h) f) = (h .inside, subst (λ (x : ℕ). x + 48 ≤ length answer) (sym f) (side-room d answer at (h .inside)))
+  inner-inside : Opens leaf width inner answer at (subtree-in answer known) InnerTaken → at + 97 ≤ length answer
+  inner-inside (at-inner k h) = h .inside
 
-  module _ (s : Step) (S : Steps l d answer at known s) where
-    step-is : (x : Step) → s ≡ x → Steps l d answer at known x
-    step-is x q = subst (λ (y : Step). Steps l d answer at known y) q S
+  module _ (o : Opening) (O : Opens leaf width inner answer at (subtree-in answer known) o) where
+    opens : (x : Opening) → o ≡ x → Opens leaf width inner answer at (subtree-in answer known) x
+    opens x q = subst (λ (y : Opening). Opens leaf width inner answer at (subtree-in answer known) y) q O
 
-    pub leaf-there : s ≡ ToLeaf → at + l .leaf-width ≤ length answer
-    leaf-there q = leaf-inside (step-is ToLeaf q)
+    -- it lies inside the answer
+    pub leaf-there : o ≡ LeafTaken → at + width ≤ length answer
+    leaf-there q = leaf-inside (opens LeafTaken q)
+
+    pub inner-there : o ≡ InnerTaken → at + 97 ≤ length answer
+    inner-there q = inner-inside (opens InnerTaken q)
 
     -- fewer bytes are left
-    pub fewer : (k : ℕ) → s ≡ ToSide k → length answer - (at + 97) < length answer - at
-    fewer k q = omega (arith, side-inside k (step-is (ToSide k) q) .0)
+    pub fewer : o ≡ InnerTaken → length answer - (at + 97) < length answer - at
+    fewer q = omega (arith, inner-there q)
 
 -- a walk that began at one place, and goes on at another
 pub record Walking (answer : Bytes) (check : ℕ → ℕ → Result CheckedProof) (at₀ known₀ at known : ℕ) : Type 0 where
@@ -162,135 +165,132 @@ pub walking : (answer : Bytes) (check : ℕ → ℕ → Result CheckedProof) (at
 walking answer check at known h k = record { inside = h; room = k; back = λ r p. p }
 
 module _ {A : Type 0} (R : Rules A) (answer : Bytes) (at₀ known₀ at known : ℕ) (W : Walking answer (tree-from R answer) at₀ known₀ at known) where
-  stops-gives : Steps (R .layout) (R .descent) answer at known Stops → Gives answer (tree-from R answer at known) (R .end) at
-  stops-gives (stops t) =
-      record {
-        proof = stopped (R .end) at (drop at answer);
-        is = tree-stops R answer at known t;
-        end-is = refl;
-        pos-is = refl;
-        rest-is = refl;
-        inside = W .inside;
-      }
+  module _ (b : Bool) (tested : b ≡ R .descent .stops (subtree-in answer known)) where
+    walk-stops : b ≡ true → (e : Stop) → e ≡ stopOf (R .descent .stop-at (subtree-in answer known)) → ProofIs answer (tree-from R answer at₀ known₀) (Stopped e at)
+    walk-stops t e k =
+        W .back (Stopped e at)
+        (stopped e (R .descent .stop-at (subtree-in answer known)) at k
+        (record {
+          proof = ended (SearchEnd.not-found (R .descent .stop-at (subtree-in answer known))) at (drop at answer);
+          is = tree-stops R answer at known (sym tested ∙ t);
+          end-is = refl;
+          pos-is = refl;
+          rest-is = refl;
+          inside = W .inside;
+        }))
 
-  walk-halts : (n : ℕ) → Steps (R .layout) (R .descent) answer at known (Halted n) → ProofIs answer (tree-from R answer at₀ known₀) (Refused n at)
-  walk-halts n (halted _ t (unopened _ h)) = W .back (Refused n at) (refused n at (tree-halts R answer at known t n h))
+    module _ (goes : b ≡ false) (o : Opening) (O : Opens (R .layout .leaf-letter) (R .layout .leaf-width) (R .layout .inner-letter) answer at (subtree-in answer known) o) where
+      is-opened : (x : Opening) → o ≡ x → Opens (R .layout .leaf-letter) (R .layout .leaf-width) (R .layout .inner-letter) answer at (subtree-in answer known) x
+      is-opened = opens (R .layout .leaf-letter) (R .layout .leaf-width) (R .layout .inner-letter) answer at known o O
 
-  walk-leaf : (r : Proof) → Steps (R .layout) (R .descent) answer at known ToLeaf
-      → ProofIs answer
-      (R .leaf (take (R .layout .leaf-width) (drop at answer)) (length (drop (at + R .layout .leaf-width) answer)) (at + R .layout .leaf-width) (drop (at + R .layout .leaf-width) answer)) r
-      → ProofIs answer (tree-from R answer at₀ known₀) r
-  walk-leaf r (to-leaf t (at-leaf k h)) p =
-      W .back r (subst (λ (m : Result CheckedProof). ProofIs answer m r) (sym (tree-leaf R answer at known t k h)) (is-opening answer _ _ r p))
+      walk-halts : (n : ℕ) → o ≡ Unopened n → ProofIs answer (tree-from R answer at₀ known₀) (Refused n at)
+      walk-halts n q = go (is-opened (Unopened n) q)
+        where
+          go : Opens (R .layout .leaf-letter) (R .layout .leaf-width) (R .layout .inner-letter) answer at (subtree-in answer known) (Unopened n)
+              → ProofIs answer (tree-from R answer at₀ known₀) (Refused n at)
+          go (unopened _ h) = W .back (Refused n at) (refused n at (tree-halts R answer at known (sym tested ∙ goes) n h))
 
-  walk-on : (k : ℕ) → Steps (R .layout) (R .descent) answer at known (ToSide k) → Walking answer (tree-from R answer) at₀ known₀ (at + 97) k
-  walk-on k (to-side _ t (at-inner n h) f) =
-      let i = side-inside (R .layout) (R .descent) answer at known k (to-side _ t (at-inner n h) f) in
-      record {
-        inside = i .0;
-        room = i .1;
-        back = λ r p.
-            W .back r
-            (subst (λ (m : Result CheckedProof). ProofIs answer m r) (sym (tree-side R answer at known t n h))
-            (is-opening answer _ _ r (subst (λ (x : ℕ). ProofIs answer (tree-from R answer (at + 97) x) r) f p)));
-      }
+      walk-leaf : o ≡ LeafTaken → (r : Proof)
+          → ProofIs answer
+          (R .leaf (take (R .layout .leaf-width) (drop at answer)) (length (drop (at + R .layout .leaf-width) answer)) (at + R .layout .leaf-width) (drop (at + R .layout .leaf-width) answer)) r
+          → ProofIs answer (tree-from R answer at₀ known₀) r
+      walk-leaf q r p = go (is-opened LeafTaken q)
+        where
+          go : Opens (R .layout .leaf-letter) (R .layout .leaf-width) (R .layout .inner-letter) answer at (subtree-in answer known) LeafTaken
+              → ProofIs answer (tree-from R answer at₀ known₀) r
+          go (at-leaf k h) =
+              W .back r (subst (λ (m : Result CheckedProof). ProofIs answer m r) (sym (tree-leaf R answer at known (sym tested ∙ goes) k h)) (is-opening answer _ _ r p))
+
+      walk-on : o ≡ InnerTaken → (side : ℕ) → side ≡ side-of (R .descent) answer at → Walking answer (tree-from R answer) at₀ known₀ (at + 97) side
+      walk-on q side f = go (is-opened InnerTaken q)
+        where
+          go : Opens (R .layout .leaf-letter) (R .layout .leaf-width) (R .layout .inner-letter) answer at (subtree-in answer known) InnerTaken
+              → Walking answer (tree-from R answer) at₀ known₀ (at + 97) side
+          go (at-inner n h) =
+              record {
+                inside = h .inside;
+                room = subst (λ (x : ℕ). x + 48 ≤ length answer) (sym f) (side-room (R .descent) answer at (h .inside));
+                back = λ r p.
+                    W .back r
+                    (subst (λ (m : Result CheckedProof). ProofIs answer m r) (sym (tree-side R answer at known (sym tested ∙ goes) n h))
+                    (is-opening answer _ _ r (subst (λ (x : ℕ). ProofIs answer (tree-from R answer (at + 97) x) r) f p)));
+              }
 
 -- ---- in one entity's tree
 
-unfoldable version-rules : ℕ → Rules VersionLeaf
-version-rules t =
+unfoldable version-rules : Relation → ℕ → Rules VersionLeaf
+version-rules r t =
     record {
       layout = versions-layout;
-      descent = by-time at-or-before t;
-      end = SearchEnd.not-yet;
-      leaf = λ s f pos x. ok (stopped (SearchEnd.found (leaf-in s)) pos x);
+      descent = by-time r t;
+      leaf = λ s f pos x. ok (ended (SearchEnd.found (leaf-in s)) pos x);
       wide = omega arith;
       fuel = λ s f g pos x a b. refl;
     }
 
-module _ (t : ℕ) (answer : Bytes) (at₀ known₀ at known : ℕ) (W : Walking answer (versions-at t answer) at₀ known₀ at known) (s : Step)
-    (S : Steps versions-layout (by-time at-or-before t) answer at known s)
+module _ (r : Relation) (t : ℕ) (answer : Bytes) (at₀ known₀ at known : ℕ) (W : Walking answer (versions-at r t answer) at₀ known₀ at known) (b : Bool)
+    (tested : b ≡ by-time r t .stops (subtree-in answer known))
   where
-    version-step-is : (x : Step) → s ≡ x → Steps versions-layout (by-time at-or-before t) answer at known x
-    version-step-is = step-is versions-layout (by-time at-or-before t) answer at known s S
-
-    pub versions-stop : s ≡ Stops → ProofIs answer (versions-at t answer at₀ known₀) (NotYet at)
+    pub versions-stop : b ≡ true → (e : Stop) → ((t : ℕ) → e ≡ stopOf (by-time r t .stop-at (subtree-in answer known)))
+        → ProofIs answer (versions-at r t answer at₀ known₀) (Stopped e at)
     unfolding versions-at check-versions version-rules
-    versions-stop q = W .back (NotYet at) (not-yet at (stops-gives (version-rules t) answer at₀ known₀ at known W (version-step-is Stops q)))
+    versions-stop h e k = walk-stops (version-rules r t) answer at₀ known₀ at known W b tested h e (k t)
 
-    pub versions-halt : (n : ℕ) → s ≡ Halted n → ProofIs answer (versions-at t answer at₀ known₀) (Refused n at)
-    unfolding versions-at check-versions version-rules
-    versions-halt n q = walk-halts (version-rules t) answer at₀ known₀ at known W n (version-step-is (Halted n) q)
+    module _ (goes : b ≡ false) (o : Opening) (O : Opens 0x4C 77 0x4E answer at (subtree-in answer known) o) where
+      pub versions-halt : (n : ℕ) → o ≡ Unopened n → ProofIs answer (versions-at r t answer at₀ known₀) (Refused n at)
+      unfolding versions-at check-versions version-rules
+      versions-halt n q = walk-halts (version-rules r t) answer at₀ known₀ at known W b tested goes o O n q
 
-    pub version-found : s ≡ ToLeaf → ProofIs answer (versions-at t answer at₀ known₀) (Found at (at + 77))
-    unfolding versions-at check-versions version-rules
-    version-found q =
-        let S = version-step-is ToLeaf q in
-        walk-leaf (version-rules t) answer at₀ known₀ at known W (Found at (at + 77)) S
-        (found at (at + 77) refl
-        (record {
-          proof = _;
-          is = refl;
-          end-is = refl;
-          pos-is = refl;
-          rest-is = refl;
-          inside = leaf-inside versions-layout (by-time at-or-before t) answer at known S;
-        }))
+      pub version-found : o ≡ LeafTaken → ProofIs answer (versions-at r t answer at₀ known₀) (Found at (at + 77))
+      unfolding versions-at check-versions version-rules
+      version-found q =
+          walk-leaf (version-rules r t) answer at₀ known₀ at known W b tested goes o O q (Found at (at + 77))
+          (found at (at + 77) refl
+          (record { proof = _; is = refl; end-is = refl; pos-is = refl; rest-is = refl; inside = leaf-there 0x4C 77 0x4E answer at known o O q }))
 
-    pub versions-on : (k : ℕ) → s ≡ ToSide k → Walking answer (versions-at t answer) at₀ known₀ (at + 97) k
-    unfolding versions-at check-versions version-rules
-    versions-on k q = walk-on (version-rules t) answer at₀ known₀ at known W k (version-step-is (ToSide k) q)
+      pub versions-on : o ≡ InnerTaken → (side : ℕ) → side ≡ side-of (by-time r t) answer at → Walking answer (versions-at r t answer) at₀ known₀ (at + 97) side
+      unfolding versions-at check-versions version-rules
+      versions-on q side f = walk-on (version-rules r t) answer at₀ known₀ at known W b tested goes o O q side f
 
 -- ---- in the tree of entities
 
-unfoldable entity-rules : ℕ → ℕ → Rules Group
-entity-rules e t =
+unfoldable entity-rules : Question → Rules Group
+entity-rules q =
     record {
       layout = entities-layout;
-      descent = by-entity e;
-      end = SearchEnd.no-entity;
-      leaf = λ s f pos x. check-versions at-or-before t f (subtree-in s 9) pos x;
+      descent = by-entity (q .entity);
+      leaf = λ s f pos x. check-versions (q .relation) (q .time) f (subtree-in s 9) pos x;
       wide = omega arith;
-      fuel = λ s f g pos x a b. versions-fuel at-or-before t f g (subtree-in s 9) pos x a b;
+      fuel = λ s f g pos x a b. versions-fuel (q .relation) (q .time) f g (subtree-in s 9) pos x a b;
     }
 
-module _ (e t : ℕ) (answer : Bytes) (at₀ known₀ at known : ℕ) (W : Walking answer (entities-at e t answer) at₀ known₀ at known) (s : Step)
-    (S : Steps entities-layout (by-entity e) answer at known s)
+module _ (q : Question) (answer : Bytes) (at₀ known₀ at known : ℕ) (W : Walking answer (entities-at q answer) at₀ known₀ at known) (b : Bool)
+    (tested : b ≡ by-entity (q .entity) .stops (subtree-in answer known))
   where
-    entity-step-is : (x : Step) → s ≡ x → Steps entities-layout (by-entity e) answer at known x
-    entity-step-is = step-is entities-layout (by-entity e) answer at known s S
+    pub entities-stop : b ≡ true → ProofIs answer (entities-at q answer at₀ known₀) (Stopped NoEntity at)
+    unfolding entities-at check-entities entity-rules by-entity stopOf
+    entities-stop h = walk-stops (entity-rules q) answer at₀ known₀ at known W b tested h NoEntity refl
 
-    pub entities-stop : s ≡ Stops → ProofIs answer (entities-at e t answer at₀ known₀) (NoEntity at)
-    unfolding entities-at check-entities entity-rules
-    entities-stop q = W .back (NoEntity at) (no-entity at (stops-gives (entity-rules e t) answer at₀ known₀ at known W (entity-step-is Stops q)))
+    module _ (goes : b ≡ false) (o : Opening) (O : Opens 0x47 57 0x50 answer at (subtree-in answer known) o) where
+      pub entities-halt : (n : ℕ) → o ≡ Unopened n → ProofIs answer (entities-at q answer at₀ known₀) (Refused n at)
+      unfolding entities-at check-entities entity-rules
+      entities-halt n k = walk-halts (entity-rules q) answer at₀ known₀ at known W b tested goes o O n k
 
-    pub entities-halt : (n : ℕ) → s ≡ Halted n → ProofIs answer (entities-at e t answer at₀ known₀) (Refused n at)
-    unfolding entities-at check-entities entity-rules
-    entities-halt n q = walk-halts (entity-rules e t) answer at₀ known₀ at known W n (entity-step-is (Halted n) q)
+      pub entity-found : o ≡ LeafTaken → (r : Proof) → ProofIs answer (versions-at (q .relation) (q .time) answer (at + 57) (at + 9)) r
+          → ProofIs answer (entities-at q answer at₀ known₀) r
+      unfolding entities-at check-entities entity-rules versions-at
+      entity-found k r p =
+          let h = leaf-there 0x47 57 0x50 answer at known o O k in
+          walk-leaf (entity-rules q) answer at₀ known₀ at known W b tested goes o O k r
+          (subst
+          (λ (k : Subtree). ProofIs answer (check-versions (q .relation) (q .time) (length (drop (at + 57) answer)) k (at + 57) (drop (at + 57) answer)) r)
+          (sym (subtree-at answer at 57 h 9 (at + 9) (omega arith) refl)) p)
 
-    pub entity-found : s ≡ ToLeaf → (r : Proof) → ProofIs answer (versions-at t answer (at + 57) (at + 9)) r → ProofIs answer (entities-at e t answer at₀ known₀) r
-    unfolding entities-at check-entities entity-rules versions-at
-    entity-found q r p =
-        let S = entity-step-is ToLeaf q in
-        let h = leaf-inside entities-layout (by-entity e) answer at known S in
-        walk-leaf (entity-rules e t) answer at₀ known₀ at known W r S
-        (subst
-        (λ (k : Subtree). ProofIs answer (check-versions at-or-before t (length (drop (at + 57) answer)) k (at + 57) (drop (at + 57) answer)) r)
-        (sym (subtree-at answer at 57 h 9 (at + 9) (omega arith) refl)) p)
-
-    pub entities-on : (k : ℕ) → s ≡ ToSide k → Walking answer (entities-at e t answer) at₀ known₀ (at + 97) k
-    unfolding entities-at check-entities entity-rules
-    entities-on k q = walk-on (entity-rules e t) answer at₀ known₀ at known W k (entity-step-is (ToSide k) q)
+      pub entities-on : o ≡ InnerTaken → (side : ℕ) → side ≡ side-of (by-entity (q .entity)) answer at → Walking answer (entities-at q answer) at₀ known₀ (at + 97) side
+      unfolding entities-at check-entities entity-rules
+      entities-on k side f = walk-on (entity-rules q) answer at₀ known₀ at known W b tested goes o O k side f
 
 -- ---- the whole proof
-
--- of a question only the relation, the entity and the time matter
-same-question : (q : Question) (r : Relation) (e t f : ℕ) (k : Subtree) (pos : ℕ) (x : Bytes) → q .relation ≡ r → q .entity ≡ e → q .time ≡ t
-    → check-entities q f k pos x ≡ check-entities (record { relation = r; part = version-only; entity = e; time = t }) f k pos x
-unfolding check-entities
-same-question q r e t f k pos x a b c =
-    ap (λ (z : Relation). check-entities (record { relation = z; part = version-only; entity = q .entity; time = q .time }) f k pos x) a
-    ∙ ap₂ (λ (y z : ℕ). check-entities (record { relation = r; part = version-only; entity = y; time = z }) f k pos x) b c
 
 module _ (answer commitment : Bytes) (at letter : ℕ) (wide : length commitment ≡ 32) (r : Taking) (T : Takes answer at letter 65 (part commitment 0 32) r)
     (q : Question)
@@ -302,10 +302,10 @@ module _ (answer commitment : Bytes) (at letter : ℕ) (wide : length commitment
     unfolding check-proof
     root-refused n e = refused n at (bind-refused _ _ n at (not-passed answer at letter 65 commitment r n root-taking e))
 
-    pub root-taken : (s t : ℕ) → r ≡ Taken → (p : Proof) → ProofIs answer (entities-at s t answer (at + 65) (at + 17)) p
-        → q .relation ≡ at-or-before → q .entity ≡ s → q .time ≡ t → ProofIs answer (check-proof letter q commitment at (drop at answer)) p
+    pub root-taken : r ≡ Taken → (p : Proof) → ProofIs answer (entities-at q answer (at + 65) (at + 17)) p
+        → ProofIs answer (check-proof letter q commitment at (drop at answer)) p
     unfolding check-proof entities-at
-    root-taken s t e p P a b c =
+    root-taken e p P =
         let h = passed answer at letter 65 commitment r root-taking e in
         let n = length-drop at answer in
         let m = length-drop (at + 65) answer in
@@ -316,6 +316,5 @@ module _ (answer commitment : Bytes) (at letter : ℕ) (wide : length commitment
         (bind-eq _ _ (take 65 (drop at answer)) (h .is)
         ∙ ap₂ (λ (x : Bytes) (y : Subtree). check-entities q (length (drop at answer)) y (at + 65) x >>= λ z. ok (opening (take 65 (drop at answer)) z)) (drop-drop 65 at answer) k
         ∙ ap (λ (m : Result CheckedProof). m >>= λ z. ok (opening (take 65 (drop at answer)) z))
-        (entities-fuel q (length (drop at answer)) (length (drop (at + 65) answer)) (subtree-in answer (at + 17)) (at + 65) (drop (at + 65) answer) (omega arith) (omega arith)
-        ∙ same-question q at-or-before s t (length (drop (at + 65) answer)) (subtree-in answer (at + 17)) (at + 65) (drop (at + 65) answer) a b c)))
+        (entities-fuel q (length (drop at answer)) (length (drop (at + 65) answer)) (subtree-in answer (at + 17)) (at + 65) (drop (at + 65) answer) (omega arith) (omega arith))))
         (is-opening answer _ _ p P)

@@ -5,19 +5,20 @@ use mathlib.Core.Bool.{true, false, cond}
 use Prim.Native.Nat.{ℕ, _+_, _≤_}
 use lib.Dec.{eqb}
 use lib.ListN.{length, take, drop}
-use Rattle.model.specs.Numbers.{Bytes, EntityKey, TimeKey}
+use Rattle.model.specs.Numbers.{Bytes, TimeKey}
 use Rattle.model.specs.Result.{Result, ok, refuse}
-use Rattle.model.specs.Accumulator.{L-width, branch-width, Subtree, Leaf, Layout}
-use Rattle.model.specs.Question.{at-or-before, version-only, Question, SearchEnd, Descent}
+use Rattle.model.specs.Accumulator.{L-width, branch-width, Subtree, Leaf}
+use Rattle.model.specs.Question as model
+use Rattle.model.specs.Question.{Relation, Question, SearchEnd, Descent}
 use Rattle.model.specs.CheckRows.{take-string, CheckedProof, subtree-in, leaf-in, check-versions, check-entities}
 use Rattle.proof_reader.specs.declared.Taking.{Taking}
 use Rattle.proof_reader.specs.declared.Taking.the-variants.{Taken, Refused as Cut}
 use Rattle.proof_reader.specs.declared.Opening.{Opening}
 use Rattle.proof_reader.specs.declared.Opening.the-variants.{Leaf as LeafTaken, Inner as InnerTaken, Refused as Unopened}
-use Rattle.proof_reader.specs.declared.Step.{Step}
-use Rattle.proof_reader.specs.declared.Step.the-variants.{Stops, Leaf as ToLeaf, Inner as ToSide, Refused as Halted}
+use Rattle.proof_reader.specs.declared.Stop.{Stop}
+use Rattle.proof_reader.specs.declared.Stop.the-variants.{NoEntity, NotYet, NoneSoLate}
 use Rattle.proof_reader.specs.declared.Proof.{Proof}
-use Rattle.proof_reader.specs.declared.Proof.the-variants.{NoEntity, NotYet, Found, Refused}
+use Rattle.proof_reader.specs.declared.Proof.the-variants.{Stopped, Found, Refused}
 
 -- ---- strings
 
@@ -41,36 +42,26 @@ pub data Opens (leaf width inner : ℕ) (answer : Bytes) (at : ℕ) (k : Subtree
   at-inner : eqb (k .least) (k .greatest) ≡ false → Passes answer at inner branch-width (k .digest) → Opens leaf width inner answer at k InnerTaken
   unopened : (number : ℕ) → string-due leaf width inner k at (drop at answer) ≡ refuse number at → Opens leaf width inner answer at k (Unopened number)
 
--- ---- steps
+-- ---- the rules of the walks
 
 -- where the subtree stands in which a descent goes on behind the string of two subtrees at byte `at`
 unfoldable pub side-of : Descent → Bytes → ℕ → ℕ
 side-of d answer at = cond (d .goes-left (subtree-in answer (at + 1)) (subtree-in answer (at + 49))) (at + 1) (at + 49)
 
--- a step in the tree of a layout, of which the subtree at byte `known` is known
-pub data Steps {A : Type 0} (l : Layout A) (d : Descent) (answer : Bytes) (at known : ℕ) : Step → Type 0 where
-  stops : d .stops (subtree-in answer known) ≡ true → Steps l d answer at known Stops
-  to-leaf : d .stops (subtree-in answer known) ≡ false
-      → Opens (l .leaf-letter) (l .leaf-width) (l .inner-letter) answer at (subtree-in answer known) LeafTaken → Steps l d answer at known ToLeaf
-  to-side : (side : ℕ) → d .stops (subtree-in answer known) ≡ false
-      → Opens (l .leaf-letter) (l .leaf-width) (l .inner-letter) answer at (subtree-in answer known) InnerTaken
-      → side ≡ side-of d answer at → Steps l d answer at known (ToSide side)
-  halted : (number : ℕ) → d .stops (subtree-in answer known) ≡ false
-      → Opens (l .leaf-letter) (l .leaf-width) (l .inner-letter) answer at (subtree-in answer known) (Unopened number)
-      → Steps l d answer at known (Halted number)
+-- where a walk stopped
+unfoldable pub stopOf : model.Stop → Stop
+stopOf model.no-entity = NoEntity
+stopOf (model.not-yet first) = NotYet (record { 0 = first })
+stopOf (model.none-so-late last) = NoneSoLate (record { 0 = last })
 
 -- ---- the walk
 
--- a question for an entity and a time; a proof does not depend on the part asked
-abbrev pub asked : EntityKey → TimeKey → Question
-asked s t = record { relation = at-or-before; part = version-only; entity = s; time = t }
-
 -- the walks from byte `at` on, in the subtree at byte `known`
-unfoldable pub versions-at : TimeKey → Bytes → ℕ → ℕ → Result CheckedProof
-versions-at t answer at known = check-versions at-or-before t (length (drop at answer)) (subtree-in answer known) at (drop at answer)
+unfoldable pub versions-at : Relation → TimeKey → Bytes → ℕ → ℕ → Result CheckedProof
+versions-at r t answer at known = check-versions r t (length (drop at answer)) (subtree-in answer known) at (drop at answer)
 
-unfoldable pub entities-at : EntityKey → TimeKey → Bytes → ℕ → ℕ → Result CheckedProof
-entities-at s t answer at known = check-entities (asked s t) (length (drop at answer)) (subtree-in answer known) at (drop at answer)
+unfoldable pub entities-at : Question → Bytes → ℕ → ℕ → Result CheckedProof
+entities-at q answer at known = check-entities q (length (drop at answer)) (subtree-in answer known) at (drop at answer)
 
 -- a proof read: how it ends, and that the bytes left are those from byte `at` on
 pub record Gives (answer : Bytes) (m : Result CheckedProof) (e : SearchEnd Leaf) (at : ℕ) : Type 0 where
@@ -83,7 +74,6 @@ pub record Gives (answer : Bytes) (m : Result CheckedProof) (e : SearchEnd Leaf)
 
 -- how it ends, or the row that it meets and where
 pub data ProofIs (answer : Bytes) (m : Result CheckedProof) : Proof → Type 0 where
-  no-entity : (at : ℕ) → Gives answer m SearchEnd.no-entity at → ProofIs answer m (NoEntity at)
-  not-yet : (at : ℕ) → Gives answer m SearchEnd.not-yet at → ProofIs answer m (NotYet at)
+  stopped : (s : Stop) (e : model.Stop) (at : ℕ) → s ≡ stopOf e → Gives answer m (SearchEnd.not-found e) at → ProofIs answer m (Stopped s at)
   found : (leaf at : ℕ) → at ≡ leaf + L-width → Gives answer m (SearchEnd.found (leaf-in (take L-width (drop leaf answer)))) at → ProofIs answer m (Found leaf at)
   refused : (number position : ℕ) → m ≡ refuse number position → ProofIs answer m (Refused number position)

@@ -4,6 +4,8 @@ use model::LETTER_L;
 use model::LETTER_N;
 use model::LETTER_P;
 use question::EntityKey;
+use question::Question;
+use question::Relation;
 use question::TimeKey;
 use strings::BRANCH_LEFT;
 use strings::BRANCH_RIGHT;
@@ -19,15 +21,16 @@ use strings::R_WIDTH;
 use strings::SUBTREE_DIGEST;
 use strings::SUBTREE_GREATEST;
 ghost use mathlib.Core.Path.{_≡_};
-ghost use Prim.Native.Nat.{_+_, _≤_};
+ghost use Prim.Native.Nat.{ℕ, _+_, _≤_};
 ghost use lib.ListN.{length, take, drop};
 ghost use Rattle.fields.specs.Fields.{part, field};
 ghost use Rattle.round_constants.specs.Constants.{K};
-ghost use Rattle.model.specs.Accumulator.{L-width, branch-width, versions-layout, entities-layout};
-ghost use Rattle.model.specs.Question.{Question, at-or-before, by-entity, by-time};
+ghost use Rattle.model.specs.Accumulator.{L-width, branch-width};
+ghost use Rattle.model.specs.Question.{by-entity, by-time};
 ghost use Rattle.model.specs.CheckRows.{subtree-in, leaf-in, check-proof};
 ghost use Rattle.model.specs.Numbers.{digest-width};
-ghost use Rattle.proof_reader.specs.Walks.{Takes, Opens, side-of, Steps, versions-at, entities-at, ProofIs};
+ghost use Rattle.question.specs.Directions.{relationOf, questionOf};
+ghost use Rattle.proof_reader.specs.Walks.{Takes, Opens, side-of, stopOf, versions-at, entities-at, ProofIs};
 
 // ---- strings
 
@@ -103,7 +106,7 @@ fn open(
     }
 }
 
-// ---- steps
+// ---- the rules of the walks
 
 // Where a known subtree stands in the answer. In the tree of entities its keys are entities, in one entity's tree they are times.
 struct EntityTreeAt(usize);
@@ -133,6 +136,13 @@ impl VersionTreeAt {
     {
         TimeKey(fields::get_u64(answer, self.0))
     }
+
+    fn greatest(self, answer: &[u8]) -> TimeKey
+        requires { ⌜ self .0 + 48 ≤ length (now answer) ⌝ }
+        ensures { λ r. ⌜ r .0 ≡ field 8 (now (answer .entry)) (self .0 + 8) ⌝ }
+    {
+        TimeKey(fields::get_u64(answer, self.0 + SUBTREE_GREATEST))
+    }
 }
 
 // Whether an entity lies outside the known keys.
@@ -146,12 +156,38 @@ fn outside(answer: &[u8], tree: EntityTreeAt, entity: EntityKey) -> bool
     tree.greatest(answer).below(entity)
 }
 
-// Whether a time lies below the known keys.
-fn before(answer: &[u8], tree: VersionTreeAt, time: TimeKey) -> bool
+// Whether no version below the known keys meets the time: looking back all are after it, looking ahead all are before it.
+fn unmet(relation: Relation, answer: &[u8], tree: VersionTreeAt, time: TimeKey) -> bool
     requires { ⌜ tree .0 + 48 ≤ length (now answer) ⌝ }
-    ensures { λ r. ⌜ r ≡ by-time at-or-before (time .0) .stops (subtree-in (now (answer .entry)) (tree .0)) ⌝ }
+    ensures { λ r. ⌜ r ≡ by-time (relationOf relation) (time .0) .stops (subtree-in (now (answer .entry)) (tree .0)) ⌝ }
 {
-    time.below(tree.least(answer))
+    match relation {
+        Relation::AtOrBefore => time.below(tree.least(answer)),
+        Relation::AtOrAfter => tree.greatest(answer).below(time),
+    }
+}
+
+// Where a walk stops without a version. In one entity's tree it has the key that is known there: the entity's first time, or its last.
+pub enum Stop {
+    NoEntity,
+    NotYet { first: TimeKey },
+    NoneSoLate { last: TimeKey },
+}
+
+fn stop_at(relation: Relation, answer: &[u8], tree: VersionTreeAt) -> Stop
+    requires { ⌜ tree .0 + 48 ≤ length (now answer) ⌝ }
+    ensures { λ r. ⌜ ((t : ℕ) → r ≡ stopOf (by-time (relationOf relation) t .stop-at (subtree-in (now (answer .entry)) (tree .0)))) ⌝ }
+{
+    match relation {
+        Relation::AtOrBefore => {
+            let first = tree.least(answer);
+            Stop::NotYet { first: first }
+        }
+        Relation::AtOrAfter => {
+            let last = tree.greatest(answer);
+            Stop::NoneSoLate { last: last }
+        }
+    }
 }
 
 // The side of the string P at a place: left if the entity is at most the left's greatest key.
@@ -167,71 +203,26 @@ fn entity_side(answer: &[u8], at: usize, entity: EntityKey) -> EntityTreeAt
     left
 }
 
-// The side of the string N at a place: right if the time is at least the right's least key.
-fn version_side(answer: &[u8], at: usize, time: TimeKey) -> VersionTreeAt
+// The side of the string N at a place: looking back, right if the time is at least the right's least key; looking ahead, left if it is at
+// most the left's greatest key.
+fn version_side(relation: Relation, answer: &[u8], at: usize, time: TimeKey) -> VersionTreeAt
     requires { ⌜ at + branch-width ≤ length (now answer) ⌝ }
-    ensures { λ r. ⌜ r .0 ≡ side-of (by-time at-or-before (time .0)) (now (answer .entry)) at ⌝ }
+    ensures { λ r. ⌜ r .0 ≡ side-of (by-time (relationOf relation) (time .0)) (now (answer .entry)) at ⌝ }
 {
     let left = VersionTreeAt(at + BRANCH_LEFT);
     let right = VersionTreeAt(at + BRANCH_RIGHT);
-    if time.below(right.least(answer)) {
-        return left;
-    }
-    right
-}
-
-// One step of a walk: it stops, a leaf's string was taken, or an inner one, with the subtree in which the walk goes on.
-enum Step {
-    Stops,
-    Leaf,
-    Inner { known: usize },
-    Refused { number: u64 },
-}
-
-// In the tree of entities: the string G or P.
-fn entity_step(
-    answer: &[u8],
-    at: usize,
-    tree: EntityTreeAt,
-    entity: EntityKey,
-    constants: &[u32; 64],
-) -> Step
-    requires { ⌜ ((at ≤ length (now answer)) × (tree .0 + 48 ≤ length (now answer))) × (now constants ≡ K) ⌝ }
-    ensures { λ r. ⌜ Steps entities-layout (by-entity (entity .0)) (now (answer .entry)) at (tree .0) r ⌝ }
-{
-    if outside(answer, tree, entity) {
-        return Step::Stops;
-    }
-    match open(answer, at, tree.0, LETTER_G, G_WIDTH, LETTER_P, constants) {
-        Opening::Refused { number } => Step::Refused { number: number },
-        Opening::Leaf => Step::Leaf,
-        Opening::Inner => {
-            let side = entity_side(answer, at, entity);
-            Step::Inner { known: side.0 }
+    match relation {
+        Relation::AtOrBefore => {
+            if time.below(right.least(answer)) {
+                return left;
+            }
+            right
         }
-    }
-}
-
-// In one entity's tree: the string L or N.
-fn version_step(
-    answer: &[u8],
-    at: usize,
-    tree: VersionTreeAt,
-    time: TimeKey,
-    constants: &[u32; 64],
-) -> Step
-    requires { ⌜ ((at ≤ length (now answer)) × (tree .0 + 48 ≤ length (now answer))) × (now constants ≡ K) ⌝ }
-    ensures { λ r. ⌜ Steps versions-layout (by-time at-or-before (time .0)) (now (answer .entry)) at (tree .0) r ⌝ }
-{
-    if before(answer, tree, time) {
-        return Step::Stops;
-    }
-    match open(answer, at, tree.0, LETTER_L, L_WIDTH, LETTER_N, constants) {
-        Opening::Refused { number } => Step::Refused { number: number },
-        Opening::Leaf => Step::Leaf,
-        Opening::Inner => {
-            let side = version_side(answer, at, time);
-            Step::Inner { known: side.0 }
+        Relation::AtOrAfter => {
+            if left.greatest(answer).below(time) {
+                return right;
+            }
+            left
         }
     }
 }
@@ -240,14 +231,14 @@ fn version_step(
 
 // How a proof ends, and the byte behind its last string; `leaf` is where the string L stands. Or the row that it meets and where.
 pub enum Proof {
-    NoEntity { at: usize },
-    NotYet { at: usize },
+    Stopped { stop: Stop, at: usize },
     Found { leaf: usize, at: usize },
     Refused { number: u64, position: usize },
 }
 
 // The walk in one entity's tree. Its depth has no bound, so it is a loop, and so is the other.
 fn walk_versions(
+    relation: Relation,
     answer: &[u8],
     start: usize,
     root: VersionTreeAt,
@@ -255,30 +246,34 @@ fn walk_versions(
     constants: &[u32; 64],
 ) -> Proof
     requires { ⌜ ((start ≤ length (now answer)) × (root .0 + 48 ≤ length (now answer))) × (now constants ≡ K) ⌝ }
-    ensures { λ r. ⌜ ProofIs (now (answer .entry)) (versions-at (time .0) (now (answer .entry)) start (root .0)) r ⌝ }
+    ensures { λ r. ⌜ ProofIs (now (answer .entry)) (versions-at (relationOf relation) (time .0) (now (answer .entry)) start (root .0)) r ⌝ }
 {
     let mut next = start;
     let mut tree = root;
     loop {
-        match version_step(answer, next, tree, time, constants) {
-            Step::Stops => {
-                return Proof::NotYet { at: next };
-            }
-            Step::Refused { number } => {
+        if unmet(relation, answer, tree, time) {
+            let stop = stop_at(relation, answer, tree);
+            return Proof::Stopped {
+                stop: stop,
+                at: next,
+            };
+        }
+        match open(answer, next, tree.0, LETTER_L, L_WIDTH, LETTER_N, constants) {
+            Opening::Refused { number } => {
                 return Proof::Refused {
                     number: number,
                     position: next,
                 };
             }
-            Step::Leaf => {
+            Opening::Leaf => {
                 let end = next + L_WIDTH;
                 return Proof::Found {
                     leaf: next,
                     at: end,
                 };
             }
-            Step::Inner { known } => {
-                tree = VersionTreeAt(known);
+            Opening::Inner => {
+                tree = version_side(relation, answer, next, time);
                 next += BRANCH_WIDTH;
             }
         }
@@ -287,40 +282,45 @@ fn walk_versions(
 
 // The walk in the tree of entities, and on in the tree of the one sought.
 fn walk_entities(
+    question: Question,
     answer: &[u8],
     start: usize,
     root: EntityTreeAt,
-    entity: EntityKey,
-    time: TimeKey,
     constants: &[u32; 64],
 ) -> Proof
     requires { ⌜ ((start ≤ length (now answer)) × (root .0 + 48 ≤ length (now answer))) × (now constants ≡ K) ⌝ }
-    ensures { λ r. ⌜ ProofIs (now (answer .entry)) (entities-at (entity .0) (time .0) (now (answer .entry)) start (root .0)) r ⌝ }
+    ensures { λ r. ⌜ ProofIs (now (answer .entry)) (entities-at (questionOf question) (now (answer .entry)) start (root .0)) r ⌝ }
 {
+    let relation = question.relation;
+    let entity = question.entity;
     let mut next = start;
     let mut tree = root;
     loop {
-        match entity_step(answer, next, tree, entity, constants) {
-            Step::Stops => {
-                return Proof::NoEntity { at: next };
-            }
-            Step::Refused { number } => {
+        if outside(answer, tree, entity) {
+            return Proof::Stopped {
+                stop: Stop::NoEntity,
+                at: next,
+            };
+        }
+        match open(answer, next, tree.0, LETTER_G, G_WIDTH, LETTER_P, constants) {
+            Opening::Refused { number } => {
                 return Proof::Refused {
                     number: number,
                     position: next,
                 };
             }
-            Step::Leaf => {
+            Opening::Leaf => {
                 return walk_versions(
+                    relation,
                     answer,
                     next + G_WIDTH,
                     VersionTreeAt(next + G_VERSIONS),
-                    time,
+                    question.time,
                     constants,
                 );
             }
-            Step::Inner { known } => {
-                tree = EntityTreeAt(known);
+            Opening::Inner => {
+                tree = entity_side(answer, next, entity);
                 next += BRANCH_WIDTH;
             }
         }
@@ -330,15 +330,14 @@ fn walk_entities(
 // The proof at a place of the answer, under a root's letter and a commitment: the string R and the walk below it.
 pub fn check_proof(
     letter: u8,
-    entity: EntityKey,
-    time: TimeKey,
+    question: Question,
     commitment: &[u8],
     answer: &[u8],
     at: usize,
     constants: &[u32; 64],
 ) -> Proof
     requires { ⌜ ((length (now commitment) ≡ digest-width) × (at ≤ length (now answer))) × (now constants ≡ K) ⌝ }
-    ensures { λ r. ⌜ ((q : Question) → q .relation ≡ at-or-before → q .entity ≡ entity .0 → q .time ≡ time .0 → ProofIs (now (answer .entry)) (check-proof letter q (now (commitment .entry)) at (drop at (now (answer .entry)))) r) ⌝ }
+    ensures { λ r. ⌜ ProofIs (now (answer .entry)) (check-proof letter (questionOf question) (now (commitment .entry)) at (drop at (now (answer .entry)))) r ⌝ }
 {
     match take_string(answer, at, letter, R_WIDTH, commitment, 0, constants) {
         Taking::Refused { number } => Proof::Refused {
@@ -348,11 +347,10 @@ pub fn check_proof(
         Taking::Taken => {
             let known = at + R_TREE;
             walk_entities(
+                question,
                 answer,
                 at + R_WIDTH,
                 EntityTreeAt(known),
-                entity,
-                time,
                 constants,
             )
         }

@@ -11,7 +11,7 @@ use lib.Dec.{T, ltb}
 use lib.ListN.{length, take, drop, getD, length-append, length-drop, take-append-drop, List·getD-append}
 use lib.Seq.{length-take-le, getD-append-add, getD-take, getD-drop}
 use Rattle.model.specs.Numbers.{Bytes, joined}
-use Rattle.model.specs.Accumulator.{Subtree as Known, Tree, tip, branch, branch-string, parent, largest-power-below, tree, Layout, subtree, string-of, VersionLeaf}
+use Rattle.model.specs.Accumulator.{Subtree as Known, Tree, tip, branch, branch-string, parent, largest-power-below, tree, Layout, subtree, string-of}
 use Rattle.model.specs.Question.{SearchEnd, Descent, Opened, stop, after, open-tree}
 use Rattle.model.proofs.Strings.{H-length}
 use Rattle.model.proofs.Trees.{flat, tree-flat, tree-one, tree-halves}
@@ -54,6 +54,12 @@ module _ {A : Type 0} (l : Layout A) (a : A) where
       (sym (getD-append-add (flat s) (flat t) (length (flat t) - 1) a)
       ∙ ap (λ (i : ℕ). getD (flat s ++ flat t) i a) (let z : length (flat s) + (length (flat t) - 1) ≡ length (flat s ++ flat t) - 1 = omega (arith, flat-some t, length-append (flat s) (flat t)) in z))
 
+  pub tree-least : (xs : List A) → 0 < length xs → subtree l (tree a xs) .least ≡ l .key (getD xs 0 a)
+  tree-least xs h = least-first (tree a xs) ∙ ap (λ (ys : List A). l .key (getD ys 0 a)) (tree-flat a xs h)
+
+  pub tree-greatest : (xs : List A) → 0 < length xs → subtree l (tree a xs) .greatest ≡ l .key (getD xs (length xs - 1) a)
+  tree-greatest xs h = greatest-last (tree a xs) ∙ ap (λ (ys : List A). l .key (getD ys (length ys - 1) a)) (tree-flat a xs h)
+
   pub digest-32 : (t : Tree A) → length (subtree l t .digest) ≡ 32
   unfolding subtree parent
   digest-32 (tip x) = H-length (l .string x)
@@ -61,7 +67,7 @@ module _ {A : Type 0} (l : Layout A) (a : A) where
 
 -- ---- a descent
 
-module _ {A : Type 0} (l : Layout A) (d : Descent) (e : SearchEnd VersionLeaf) (inside : A → Opened) (a : A) (xs : List A) where
+module _ {A : Type 0} (l : Layout A) (d : Descent) (inside : A → Opened) (a : A) (xs : List A) where
   -- it stands at the tree of n leaves from place `from` on, after `depth` strings
   pub record Way (from n depth : ℕ) : Type 0 where
     pub front : List A
@@ -72,7 +78,7 @@ module _ {A : Type 0} (l : Layout A) (d : Descent) (e : SearchEnd VersionLeaf) (
     pub number : length part ≡ n
     pub some-leaf : 0 < n
     pub strings : List Bytes
-    pub opens : open-tree l d e inside (tree a xs) ≡ onto strings (open-tree l d e inside (tree a part))
+    pub opens : open-tree l d inside (tree a xs) ≡ onto strings (open-tree l d inside (tree a part))
     pub path : (i r : ℕ) → i < n → path-to (l .inner-letter) (own l xs) (from + i) (depth + r) ≡ strings ++ path-to (l .inner-letter) (own l part) i r
     pub long : length (joined strings) ≡ 97 * depth
 
@@ -87,7 +93,7 @@ module _ {A : Type 0} (l : Layout A) (d : Descent) (e : SearchEnd VersionLeaf) (
         number = sym h;
         some-leaf = p;
         strings = [];
-        opens = sym (onto-none (open-tree l d e inside (tree a xs)));
+        opens = sym (onto-none (open-tree l d inside (tree a xs)));
         path = λ i r q. ap₂ (path-to (l .inner-letter) (own l xs)) (let z : 0 + i ≡ i = omega arith in z) (let z : 0 + r ≡ r = omega arith in z);
         long = refl;
       }
@@ -102,14 +108,12 @@ module _ {A : Type 0} (l : Layout A) (d : Descent) (e : SearchEnd VersionLeaf) (
 
     pub way-least : subtree l (tree a (W .part)) .least ≡ l .key (getD xs from a)
     way-least =
-        least-first l a (tree a (W .part))
-        ∙ ap (λ (ys : List A). l .key (getD ys 0 a)) (tree-flat a (W .part) (omega (arith, W .number, W .some-leaf)))
+        tree-least l a (W .part) (omega (arith, W .number, W .some-leaf))
         ∙ ap (l .key) (at 0 (W .some-leaf) ∙ ap (λ (k : ℕ). getD xs k a) (add-zero from))
 
     pub way-greatest : subtree l (tree a (W .part)) .greatest ≡ l .key (getD xs (from + (n - 1)) a)
     way-greatest =
-        greatest-last l a (tree a (W .part))
-        ∙ ap (λ (ys : List A). l .key (getD ys (length ys - 1) a)) (tree-flat a (W .part) (omega (arith, W .number, W .some-leaf)))
+        tree-greatest l a (W .part) (omega (arith, W .number, W .some-leaf))
         ∙ ap (λ (k : ℕ). l .key (getD (W .part) (k - 1) a)) (W .number)
         ∙ ap (l .key) (at (n - 1) (omega (arith, W .some-leaf)))
 
@@ -121,7 +125,7 @@ module _ {A : Type 0} (l : Layout A) (d : Descent) (e : SearchEnd VersionLeaf) (
         ∙ ap (λ (ys : List Bytes). W .strings ++ ys) (path-none (l .inner-letter) (own l (W .part)) 0)
         ∙ append-nil (W .strings)
 
-    walked : (w : Opened) → open-tree l d e inside (tree a (W .part)) ≡ w → Walked l d e inside a xs from depth w
+    walked : (w : Opened) → open-tree l d inside (tree a (W .part)) ≡ w → Walked l d inside a xs from depth w
     walked w h =
         record {
           is = W .opens ∙ ap₂ onto (sym path-here) h;
@@ -129,14 +133,15 @@ module _ {A : Type 0} (l : Layout A) (d : Descent) (e : SearchEnd VersionLeaf) (
         }
 
     -- it stops here
-    pub way-stopped : d .stops (subtree l (tree a (W .part))) ≡ true → Walked l d e inside a xs from depth (stop e)
-    way-stopped h = walked (stop e) (stopped-at l d e inside (tree a (W .part)) (subst T (sym h) tt))
+    pub way-stopped : d .stops (subtree l (tree a (W .part))) ≡ true
+        → Walked l d inside a xs from depth (stop (SearchEnd.not-found (d .stop-at (subtree l (tree a (W .part))))))
+    way-stopped h = walked _ (stopped-at l d inside (tree a (W .part)) (subst T (sym h) tt))
 
     pub way-leaf : n ≤ 1 → d .stops (subtree l (tree a (W .part))) ≡ false
-        → Walked l d e inside a xs from depth (after (l .string (getD xs from a)) (inside (getD xs from a)))
+        → Walked l d inside a xs from depth (after (l .string (getD xs from a)) (inside (getD xs from a)))
     way-leaf h s = go (W .part) refl
       where
-        go : (ys : List A) → W .part ≡ ys → Walked l d e inside a xs from depth (after (l .string (getD xs from a)) (inside (getD xs from a)))
+        go : (ys : List A) → W .part ≡ ys → Walked l d inside a xs from depth (after (l .string (getD xs from a)) (inside (getD xs from a)))
         go [] q = absurd (let z : ⊥ = omega (arith, ap length q, W .number, W .some-leaf) in z)
         go (x ∷ y ∷ ys) q = absurd (let z : ⊥ = omega (arith, ap length q, W .number) in z)
         go (x ∷ []) q =
@@ -144,8 +149,8 @@ module _ {A : Type 0} (l : Layout A) (d : Descent) (e : SearchEnd VersionLeaf) (
             let v : x ≡ getD xs from a =
             ap (λ (ys : List A). getD ys 0 a) (sym q) ∙ at 0 (W .some-leaf) ∙ ap (λ (k : ℕ). getD xs k a) (add-zero from) in
             walked _
-            (ap (open-tree l d e inside) t
-            ∙ opened-tip l d e inside x (subst (λ (b : Bool). T (not b)) (sym (ap (λ (u : Tree A). d .stops (subtree l u)) (sym t) ∙ s)) tt)
+            (ap (open-tree l d inside) t
+            ∙ opened-tip l d inside x (subst (λ (b : Bool). T (not b)) (sym (ap (λ (u : Tree A). d .stops (subtree l u)) (sym t) ∙ s)) tt)
             ∙ ap (λ (z : A). after (l .string z) (inside z)) v)
 
     -- the two halves
@@ -181,15 +186,13 @@ module _ {A : Type 0} (l : Layout A) (d : Descent) (e : SearchEnd VersionLeaf) (
 
       pub left-greatest : subtree l (tree a left) .greatest ≡ l .key (getD xs (from + (largest-power-below n - 1)) a)
       left-greatest =
-          greatest-last l a (tree a left)
-          ∙ ap (λ (ys : List A). l .key (getD ys (length ys - 1) a)) (tree-flat a left (omega (arith, left-number, bounds .0)))
+          tree-greatest l a left (omega (arith, left-number, bounds .0))
           ∙ ap (λ (j : ℕ). l .key (getD left (j - 1) a)) left-number
           ∙ ap (l .key) (getD-take k (W .part) (k - 1) a (omega (arith, bounds .0)) ∙ at (k - 1) (omega (arith, bounds .1)))
 
       pub right-least : subtree l (tree a right) .least ≡ l .key (getD xs (from + largest-power-below n) a)
       right-least =
-          least-first l a (tree a right)
-          ∙ ap (λ (ys : List A). l .key (getD ys 0 a)) (tree-flat a right (omega (arith, right-number, bounds .1)))
+          tree-least l a right (omega (arith, right-number, bounds .1))
           ∙ ap (l .key) (getD-drop k (W .part) 0 a ∙ ap (λ (j : ℕ). getD (W .part) j a) (add-zero k) ∙ at k (bounds .1))
 
       string-97 : length string ≡ 97
@@ -203,11 +206,11 @@ module _ {A : Type 0} (l : Layout A) (d : Descent) (e : SearchEnd VersionLeaf) (
           (ap (subtree-of (l .inner-letter)) (map-take (λ (x : A). subtree l (tip x)) k (W .part)) ∙ subtree-of-tree l a left (omega (arith, left-number, bounds .0)))
           (ap (subtree-of (l .inner-letter)) (map-drop (λ (x : A). subtree l (tip x)) k (W .part)) ∙ subtree-of-tree l a right (omega (arith, right-number, bounds .1)))
 
-      opens-one : open-tree l d e inside (tree a (W .part)) ≡ after string (cond turns-left (open-tree l d e inside (tree a left)) (open-tree l d e inside (tree a right)))
+      opens-one : open-tree l d inside (tree a (W .part)) ≡ after string (cond turns-left (open-tree l d inside (tree a left)) (open-tree l d inside (tree a right)))
       unfolding turns-left
       opens-one =
-          ap (open-tree l d e inside) halves
-          ∙ opened-branch l d e inside (tree a left) (tree a right) (subst (λ (b : Bool). T (not b)) (sym (ap (λ (u : Tree A). d .stops (subtree l u)) (sym halves) ∙ goes-on)) tt)
+          ap (open-tree l d inside) halves
+          ∙ opened-branch l d inside (tree a left) (tree a right) (subst (λ (b : Bool). T (not b)) (sym (ap (λ (u : Tree A). d .stops (subtree l u)) (sym halves) ∙ goes-on)) tt)
 
       path-one : (i r : ℕ) → i < n
           → path-to (l .inner-letter) (own l xs) (from + i) (depth + 1 + r)
@@ -230,9 +233,9 @@ module _ {A : Type 0} (l : Layout A) (d : Descent) (e : SearchEnd VersionLeaf) (
           ∙ length-append (joined (W .strings)) (string ++ [])
           ∙ omega (arith, W .long, ap length (append-nil string), string-97)
 
-      opens-on : (ys : List A) → cond turns-left (open-tree l d e inside (tree a left)) (open-tree l d e inside (tree a right)) ≡ open-tree l d e inside (tree a ys)
-          → open-tree l d e inside (tree a xs) ≡ onto (W .strings ++ (string ∷ [])) (open-tree l d e inside (tree a ys))
-      opens-on ys h = W .opens ∙ ap (onto (W .strings)) (opens-one ∙ ap (after string) h) ∙ onto-more (W .strings) string (open-tree l d e inside (tree a ys))
+      opens-on : (ys : List A) → cond turns-left (open-tree l d inside (tree a left)) (open-tree l d inside (tree a right)) ≡ open-tree l d inside (tree a ys)
+          → open-tree l d inside (tree a xs) ≡ onto (W .strings ++ (string ∷ [])) (open-tree l d inside (tree a ys))
+      opens-on ys h = W .opens ∙ ap (onto (W .strings)) (opens-one ∙ ap (after string) h) ∙ onto-more (W .strings) string (open-tree l d inside (tree a ys))
 
       way-left : turns-left ≡ true → Way from k (depth + 1)
       way-left h =
@@ -248,7 +251,7 @@ module _ {A : Type 0} (l : Layout A) (d : Descent) (e : SearchEnd VersionLeaf) (
             number = left-number;
             some-leaf = bounds .0;
             strings = W .strings ++ (string ∷ []);
-            opens = opens-on left (ap (λ (b : Bool). cond b (open-tree l d e inside (tree a left)) (open-tree l d e inside (tree a right))) h);
+            opens = opens-on left (ap (λ (b : Bool). cond b (open-tree l d inside (tree a left)) (open-tree l d inside (tree a right))) h);
             path = λ i r q.
                 path-one i r (omega (arith, bounds .1))
                 ∙ ap (λ (b : Bool). (W .strings ++ (string ∷ [])) ++ cond b (path-to (l .inner-letter) (own l left) i r) (path-to (l .inner-letter) (own l right) (i - k) r)) (lt-ltb i k q);
@@ -270,7 +273,7 @@ module _ {A : Type 0} (l : Layout A) (d : Descent) (e : SearchEnd VersionLeaf) (
             number = right-number;
             some-leaf = omega (arith, bounds .1);
             strings = W .strings ++ (string ∷ []);
-            opens = opens-on right (ap (λ (b : Bool). cond b (open-tree l d e inside (tree a left)) (open-tree l d e inside (tree a right))) h);
+            opens = opens-on right (ap (λ (b : Bool). cond b (open-tree l d inside (tree a left)) (open-tree l d inside (tree a right))) h);
             path = λ i r q.
                 ap (λ (j : ℕ). path-to (l .inner-letter) (own l xs) j (depth + 1 + r)) (let z : from + k + i ≡ from + (k + i) = omega arith in z)
                 ∙ path-one (k + i) r (omega (arith, bounds .1))

@@ -4,6 +4,7 @@ use mathlib.Core.Logic.{_⊎_, inl, inr}
 use mathlib.Core.Bool.{Bool, true, false, cond}
 use mathlib.Core.List.{List, [], _∷_}
 use Prim.Native.Nat.{ℕ, zero, suc, _+_, _-_, _*_, _≤_, _<_}
+use native.Mathlib.Nat.{lt-of-not-le}
 use native.Mathlib.Omega.{arith}
 use borrow.Author.Tests.{lt-ltb}
 use lib.Dec.{T, ltb}
@@ -12,24 +13,28 @@ use Rattle.fields.specs.Fields.{field}
 use Rattle.fields.proofs.Numbers.{le-or-lt}
 use Rattle.model.specs.Numbers.{Bytes}
 use Rattle.model.specs.Graph.{VersionNode, node-at}
-use Rattle.model.specs.Accumulator.{tree, VersionLeaf, versions-layout, no-leaf, Group, entities-layout, no-group, is-entry, entities, version-leaves, group, entity-tree, leaf-string}
-use Rattle.model.specs.Question.{Question, at-or-before, SearchEnd, by-entity, by-time, Opened, stop, after, open-tree, open-versions, open-entities}
+use Rattle.model.specs.Accumulator.{tree, subtree, VersionLeaf, versions-layout, no-leaf, Group, entities-layout, no-group, is-entry, entities, version-leaves, group, entity-tree, leaf-string}
+use Rattle.model.specs.Question.{Relation, at-or-before, at-or-after, Question, SearchEnd, by-time, Opened, stop, after, open-versions, open-entities}
+use Rattle.model.specs.Exact.{Meets}
 use Rattle.model.proofs.Lists.{map-at}
+use Rattle.model.proofs.Walk.{stopped-at}
 use Rattle.graph.specs.Table.{node-in, version, Columns, columns, Kept}
 use Rattle.graph.proofs.Nodes.{map-length}
-use Rattle.accumulator.proofs.Opening.{path-none}
 use Rattle.trees.proofs.EntityWalk.{slot-node}
 use Rattle.proof_writer.specs.declared.EntityPath.{EntityPath}
 use Rattle.proof_writer.specs.declared.Sought.{Sought}
 use Rattle.proof_writer.specs.declared.Sought.the-variants.{Absent, Present}
+use Rattle.proof_writer.specs.declared.Nearest.{Nearest}
+use Rattle.proof_writer.specs.declared.Nearest.the-variants.{Nothing, Version}
 use Rattle.proof_writer.specs.declared.Versions.{Versions}
 use Rattle.proof_writer.specs.declared.Planned.{Planned}
-use Rattle.proof_writer.specs.declared.Planned.the-variants.{NoEntity, NotYet, Found}
+use Rattle.proof_writer.specs.declared.Planned.the-variants.{NoEntity, Unmet, Found}
 use Rattle.trees.specs.Tables.{Graphed, HasGraph}
-use Rattle.proof_writer.specs.StoredLeaves.{own, LeavesStored, groups, versions, version-at, EntityLeavesStored}
-use Rattle.proof_writer.specs.Walks.{onto, AbsentIs, PresentIs, EntitySought, Nearest, DepthIs, Counted, VersionsOf, HasVersion, FirstVersion}
-use Rattle.proof_writer.specs.Plans.{entity-path, entity-string, version-path, path-of, walk-of, PathFits, EntryIs, RestIs, Asks, PlanIs, Plan, HasEntity, Reaches}
-use Rattle.proof_writer.proofs.Descents.{way-none, way-least, way-stopped}
+use Rattle.proof_writer.specs.StoredLeaves.{LeavesStored, groups, versions, EntityLeavesStored}
+use Rattle.proof_writer.specs.Walks.{onto, AbsentIs, PresentIs, EntitySought, DepthIs, NearestIs, none-meets, nearest, VersionsOf, HasVersion, FirstVersion}
+use Rattle.proof_writer.specs.Plans.{entity-path, entity-string, version-path, path-of, unmet-end, walk-of, PathFits, EntryIs, RestIs, PlanIs, Plan, HasEntity, Reaches}
+use Rattle.proof_writer.proofs.Descents.{tree-least, tree-greatest}
+use Rattle.proof_writer.proofs.Seeking.{at-version}
 use Rattle.proof_writer.proofs.StoringLeaves.{graphed-kept}
 
 -- ---- the version that enters an entity
@@ -86,67 +91,68 @@ module _ (work : Bytes) (n x : ℕ) (H : HasEntity work n x) where
 
 -- ---- in the entity's tree
 
-nearest-of : (ns : List VersionNode) (t : ℕ) (vs : List VersionLeaf) (before slot : ℕ) → Counted ns t vs before slot → 0 < before → Nearest t vs (before - 1)
-nearest-of ns t vs before slot C h =
-    record {
-      there = omega (arith, C .most);
-      before = λ i g. C .early i (omega arith);
-      behind = λ i g k. C .late i (omega arith) k;
-    }
+-- where no version meets the time, the walk stops at the top
+stops-unmet : (r : Relation) (t : ℕ) (vs : List VersionLeaf) → 0 < length vs → ((i : ℕ) → i < length vs → Meets r (getD vs i no-leaf .leaf .time) t → ⊥)
+    → by-time r t .stops (subtree versions-layout (tree no-leaf vs)) ≡ true
+unfolding by-time
+stops-unmet at-or-before t vs p f = ap (ltb t) (tree-least versions-layout no-leaf vs p) ∙ lt-ltb t _ (lt-of-not-le (f 0 p))
+stops-unmet at-or-after t vs p f =
+    ap (λ (k : ℕ). ltb k t) (tree-greatest versions-layout no-leaf vs p) ∙ lt-ltb _ t (lt-of-not-le (f (length vs - 1) (omega arith)))
 
-too-early : (t : ℕ) (vs : List VersionLeaf) → 0 < length vs → t < getD vs 0 no-leaf .leaf .time → open-versions at-or-before t (tree no-leaf vs) ≡ stop SearchEnd.not-yet
-unfolding open-versions by-time onto
-too-early t vs p h =
-    let l : VersionLeaf → Opened = λ (v : VersionLeaf). stop (SearchEnd.found v) in
-    let W = way-none versions-layout (by-time at-or-before t) SearchEnd.not-yet l no-leaf vs (length vs) refl p in
-    way-stopped versions-layout (by-time at-or-before t) SearchEnd.not-yet l no-leaf vs 0 (length vs) 0 W
-    (ap (ltb t) (way-least versions-layout (by-time at-or-before t) SearchEnd.not-yet l no-leaf vs 0 (length vs) 0 W) ∙ lt-ltb t _ h) .is
-    ∙ ap (λ (ss : List Bytes). onto ss (stop SearchEnd.not-yet)) (path-none 0x4e (own versions-layout vs) 0)
+stopped-unmet : (r : Relation) (t : ℕ) (vs : List VersionLeaf) → 0 < length vs → ((i : ℕ) → i < length vs → Meets r (getD vs i no-leaf .leaf .time) t → ⊥)
+    → open-versions r t (tree no-leaf vs) ≡ stop (SearchEnd.not-found (by-time r t .stop-at (subtree versions-layout (tree no-leaf vs))))
+unfolding open-versions
+stopped-unmet r t vs p f = stopped-at versions-layout (by-time r t) at-version (tree no-leaf vs) (subst T (sym (stops-unmet r t vs p f)) tt)
 
-module _ (work : Bytes) (ns : List VersionNode) (x t : ℕ) (p : EntityPath) (R : Reaches work ns x p) (entry : ℕ) (E : EntryIs ns x entry) (v : Versions) (of : VersionsOf ns (node-at ns entry .entity) t v) where
-  counted : Counted ns t (versions ns x) (v .before) (v .slot)
-  counted = subst (λ (y : ℕ). Counted ns t (versions ns y) (v .before) (v .slot)) (E .entity) (of .counted)
+pub index-inside : (ns : List VersionNode) (x : ℕ) (r : Relation) (t : ℕ) (v : Versions) → VersionsOf ns x r t v → (index slot : ℕ) → v .nearest ≡ Version index slot → index < v .count
+index-inside ns x r t v of index slot e = go (subst (NearestIs ns r t (versions ns x)) e (of .sought))
+  where
+    go : NearestIs ns r t (versions ns x) (Version index slot) → index < v .count
+    go (nearest _ _ N s h) = omega (arith, of .number, N .there)
+
+module _ (work : Bytes) (ns : List VersionNode) (q : Question) (p : EntityPath) (R : Reaches work ns q p) (entry : ℕ) (E : EntryIs ns (q .entity) entry) (v : Versions) (of : VersionsOf ns (node-at ns entry .entity) (q .relation) (q .time) v) where
+  abbrev x : ℕ
+  x = q .entity
 
   number : v .count ≡ length (versions ns x)
   number = of .number ∙ ap (λ (y : ℕ). length (versions ns y)) (E .entity)
 
-  pub plan-not-yet : (length : ℕ) → length ≡ 122 + 97 * p .depth → v .before ≡ 0 → PlanIs work ns x t (NotYet length p entry)
-  unfolding path-of RestIs walk-of group versions
-  plan-not-yet length e z =
-      record {
-        path = R .path;
-        rest = (E, e);
-        is = λ q A.
-            R .is q t A
-            ∙ ap (λ (w : Opened). onto (entity-path ns p) (after (entity-string ns x) w))
-            (too-early t (versions ns x) (omega (arith, number, of .some-version)) (counted .late 0 (omega arith) (omega (arith, number, of .some-version))));
-      }
+  sought-is : (l : Nearest) → v .nearest ≡ l → NearestIs ns (q .relation) (q .time) (versions ns x) l
+  sought-is l e = subst (NearestIs ns (q .relation) (q .time) (versions ns x)) e (subst (λ (y : ℕ). NearestIs ns (q .relation) (q .time) (versions ns y) (v .nearest)) (E .entity) (of .sought))
 
-  pub plan-found : (length index depth : ℕ) → (v .before ≡ 0 → ⊥) → index ≡ v .before - 1 → DepthIs (v .count) index depth → depth ≤ 65535 → length ≡ 122 + 97 * p .depth + (97 * depth + 77)
-      → PlanIs work ns x t (Found length p entry (v .slot) index depth)
+  pub plan-unmet : (length : ℕ) → length ≡ 122 + 97 * p .depth → v .nearest ≡ Nothing → PlanIs work ns q (Unmet length p entry)
+  unfolding path-of RestIs walk-of unmet-end group versions
+  plan-unmet length e z = go (sought-is Nothing z)
+    where
+      go : NearestIs ns (q .relation) (q .time) (versions ns x) Nothing → PlanIs work ns q (Unmet length p entry)
+      go (none-meets f) =
+          record {
+            path = R .path;
+            rest = (E, e);
+            is =
+                R .is
+                ∙ ap (λ (w : Opened). onto (entity-path ns p) (after (entity-string ns x) w))
+                (stopped-unmet (q .relation) (q .time) (versions ns x) (omega (arith, number, of .some-version)) f);
+          }
+
+  pub plan-found : (length index slot depth : ℕ) → v .nearest ≡ Version index slot → DepthIs (v .count) index depth → depth ≤ 65535 → length ≡ 122 + 97 * p .depth + (97 * depth + 77)
+      → PlanIs work ns q (Found length p entry slot index depth)
   unfolding path-of RestIs walk-of group versions open-versions version-path
-  plan-found length index depth z i D few e =
-      let some : 0 < v .before = omega arith in
-      let last = counted .last some in
-      let near : Nearest t (versions ns x) index = subst (Nearest t (versions ns x)) (sym i) (nearest-of ns t (versions ns x) (v .before) (v .slot) counted some) in
-      let W = D .at (versions ns x) number t near .walked in
-      let here : getD (versions ns x) index no-leaf ≡ version-at ns (v .slot) = ap (λ (j : ℕ). getD (versions ns x) j no-leaf) i ∙ last .1 in
-      record {
-        path = R .path;
-        rest = (record { entry-is = E; slot-inside = last .0; index-inside = near .there; shallow = few; long = W .long }, e ∙ omega arith);
-        is = λ q A.
-            R .is q t A
-            ∙ ap (λ (w : Opened). onto (entity-path ns p) (after (entity-string ns x) w))
-            (W .is ∙ ap (λ (u : VersionLeaf). onto (version-path ns x index depth) (after (leaf-string (u .leaf)) (stop (SearchEnd.found u)))) here);
-      }
+  plan-found length index slot depth z D few e = go (sought-is (Version index slot) z)
+    where
+      go : NearestIs ns (q .relation) (q .time) (versions ns x) (Version index slot) → PlanIs work ns q (Found length p entry slot index depth)
+      go (nearest _ _ N s here) =
+          let W = D .at (versions ns x) number (q .relation) (q .time) N .walked in
+          record {
+            path = R .path;
+            rest = (record { entry-is = E; slot-inside = s; index-inside = N .there; shallow = few; long = W .long }, e ∙ omega arith);
+            is =
+                R .is
+                ∙ ap (λ (w : Opened). onto (entity-path ns p) (after (entity-string ns x) w))
+                (W .is ∙ ap (λ (u : VersionLeaf). onto (version-path ns x index depth) (after (leaf-string (u .leaf)) (stop (SearchEnd.found u)))) here);
+          }
 
 -- ---- in the tree of entities
-
-asked : (q : Question) (x t : ℕ) (ns : List VersionNode) → Asks q x t
-    → open-entities q (entity-tree ns) ≡ open-tree entities-layout (by-entity x) SearchEnd.no-entity (λ (g : Group). open-versions at-or-before t (g .versions)) (tree no-group (groups ns))
-unfolding open-entities entity-tree groups
-asked q x t ns A =
-    λ i. open-tree entities-layout (by-entity (A .entity i)) SearchEnd.no-entity (λ (g : Group). open-versions (A .relation i) (A .time i) (g .versions)) (entity-tree ns)
 
 module _ (work work′ : Bytes) (ns : List VersionNode) (count : ℕ) (E : EntityLeavesStored work work′ ns count) (target depth : ℕ) (inside : target < length (groups ns)) (shallow : depth ≤ length (groups ns)) where
   abbrev path : EntityPath
@@ -155,15 +161,11 @@ module _ (work work′ : Bytes) (ns : List VersionNode) (count : ℕ) (E : Entit
   path-fits : PathFits work′ path
   path-fits = record { has-leaves = E .has-leaves; inside = omega (arith, E .stored .number); shallow = omega (arith, E .stored .number, E .has-leaves .few) }
 
-  pub plan-absent : (x t length : ℕ) → AbsentIs x (groups ns) target depth → length ≡ 65 + 97 * depth → PlanIs work′ ns x t (NoEntity length path)
-  unfolding path-of RestIs walk-of entity-path
-  plan-absent x t length A e =
-      let W = A .walked (λ (g : Group). open-versions at-or-before t (g .versions)) in
-      record {
-        path = record { fits = path-fits; stored = E .stored; long = W .long };
-        rest = e;
-        is = λ q B. asked q x t ns B ∙ W .is;
-      }
+  pub plan-absent : (q : Question) (length : ℕ) → AbsentIs (q .entity) (groups ns) target depth → length ≡ 65 + 97 * depth → PlanIs work′ ns q (NoEntity length path)
+  unfolding path-of RestIs walk-of entity-path open-entities entity-tree groups
+  plan-absent q length A e =
+      let W = A .walked (λ (g : Group). open-versions (q .relation) (q .time) (g .versions)) in
+      record { path = record { fits = path-fits; stored = E .stored; long = W .long }; rest = e; is = W .is }
 
   module _ (x : ℕ) (P : PresentIs x (groups ns) target depth) where
     leaf-is : getD (groups ns) target no-group ≡ group (version-leaves ns) (getD (entities ns) target 0)
@@ -173,18 +175,6 @@ module _ (work work′ : Bytes) (ns : List VersionNode) (count : ℕ) (E : Entit
     name-is : getD (entities ns) target 0 ≡ x
     unfolding group
     name-is = ap (λ (g : Group). g .entity) (sym leaf-is) ∙ P .entity
-
-    pub reaches : Reaches work′ ns x path
-    unfolding entity-path entity-string
-    reaches =
-        let here : getD (groups ns) target no-group ≡ group (version-leaves ns) x = leaf-is ∙ ap (group (version-leaves ns)) name-is in
-        record {
-          path = record { fits = path-fits; stored = E .stored; long = P .walked (λ (g : Group). stop SearchEnd.no-entity) .long };
-          is = λ q t B.
-              asked q x t ns B
-              ∙ P .walked (λ (g : Group). open-versions at-or-before t (g .versions)) .is
-              ∙ ap (λ (g : Group). onto (entity-path ns path) (after (entities-layout .string g) (open-versions at-or-before t (g .versions)))) here;
-        }
 
     groups-number : length (groups ns) ≡ length (entities ns)
     unfolding groups
@@ -202,6 +192,17 @@ module _ (work work′ : Bytes) (ns : List VersionNode) (count : ℕ) (E : Entit
           enters = subst (λ (m : VersionNode). T (is-entry m)) (sym node) (r .1 .enters);
           entity = ap (λ (m : VersionNode). m .entity) node ∙ r .1 .entity ∙ name-is;
         }
+
+  pub reaches : (q : Question) → PresentIs (q .entity) (groups ns) target depth → Reaches work′ ns q path
+  unfolding entity-path entity-string open-entities entity-tree groups
+  reaches q P =
+      let inside-group : Group → Opened = λ (g : Group). open-versions (q .relation) (q .time) (g .versions) in
+      let here : getD (groups ns) target no-group ≡ group (version-leaves ns) (q .entity) = leaf-is (q .entity) P ∙ ap (group (version-leaves ns)) (name-is (q .entity) P) in
+      let W = P .walked inside-group in
+      record {
+        path = record { fits = path-fits; stored = E .stored; long = W .long };
+        is = W .is ∙ ap (λ (g : Group). onto (entity-path ns path) (after (entities-layout .string g) (inside-group g))) here;
+      }
 
 -- ---- planning
 
@@ -232,20 +233,27 @@ module _ (work work′ : Bytes) (n count : ℕ) (H : HasGraph work n) (stored : 
         let E = stored-leaves-at (H .ns) graph-after in
         omega (arith, absent-at e (H .ns) graph-after .shallow, E .stored .number, E .has-leaves .few)
 
-    pub planned-absent : r ≡ Absent target depth → (t length : ℕ) → length ≡ 65 + 97 * depth
-        → Plan work′ n x t (NoEntity length (record { count = count; target = target; depth = depth }))
-    planned-absent e t length h =
-        record {
-          of = λ ns G. let A = absent-at e ns G in plan-absent work work′ ns count (stored-leaves-at ns G) target depth (A .inside) (A .shallow) x t length A h;
-        }
-
     pub present-ready : r ≡ Present target depth → HasEntity work′ n x × (depth ≤ 65535)
     present-ready e =
         let E = stored-leaves-at (H .ns) graph-after in
         let P = present-at e (H .ns) graph-after in
         (has-entity work work′ (H .ns) count E target depth (P .inside) (P .shallow) x P n graph-after, omega (arith, P .shallow, E .stored .number, E .has-leaves .few))
 
-    pub planned-present : r ≡ Present target depth → (t : ℕ) (p : Planned)
-        → ((ns : List VersionNode) → Graphed work′ n ns → Reaches work′ ns x (record { count = count; target = target; depth = depth }) → PlanIs work′ ns x t p) → Plan work′ n x t p
-    planned-present e t p f =
-        record { of = λ ns G. let P = present-at e ns G in f ns G (reaches work work′ ns count (stored-leaves-at ns G) target depth (P .inside) (P .shallow) x P) }
+  module _ (q : Question) (r : Sought) (sought : (gs : List Group) → LeavesStored entities-layout work′ gs count → EntitySought (q .entity) gs r) (target depth : ℕ) where
+    pub planned-absent : r ≡ Absent target depth → (length : ℕ) → length ≡ 65 + 97 * depth
+        → Plan work′ n q (NoEntity length (record { count = count; target = target; depth = depth }))
+    planned-absent e length h =
+        record {
+          of = λ ns G.
+              let A = absent-at (q .entity) r sought target depth e ns G in
+              plan-absent work work′ ns count (stored-leaves-at ns G) target depth (A .inside) (A .shallow) q length A h;
+        }
+
+    pub planned-present : r ≡ Present target depth → (p : Planned)
+        → ((ns : List VersionNode) → Graphed work′ n ns → Reaches work′ ns q (record { count = count; target = target; depth = depth }) → PlanIs work′ ns q p) → Plan work′ n q p
+    planned-present e p f =
+        record {
+          of = λ ns G.
+              let P = present-at (q .entity) r sought target depth e ns G in
+              f ns G (reaches work work′ ns count (stored-leaves-at ns G) target depth (P .inside) (P .shallow) q P);
+        }

@@ -4,7 +4,7 @@ use mathlib.Core.Logic.{_⊎_, inl, inr}
 use mathlib.Core.Bool.{Bool, true, false, not, _||_}
 use mathlib.Core.List.{List}
 use Prim.Native.Nat.{ℕ, zero, suc, _+_, _-_, _*_, _≤_, _<_}
-use native.Mathlib.Nat.{add-zero, add-suc, suc-add}
+use native.Mathlib.Nat.{add-zero, add-suc, suc-add, lt-of-not-le}
 use native.Mathlib.Omega.{arith}
 use borrow.Author.Tests.{lt-ltb, le-ltb, le-leb, lt-leb, ltb-true, ltb-false}
 use lib.Dec.{ltb, leb}
@@ -13,14 +13,14 @@ use Rattle.fields.specs.Fields.{field}
 use Rattle.fields.proofs.Numbers.{le-or-lt}
 use Rattle.model.specs.Numbers.{Bytes}
 use Rattle.model.specs.Accumulator.{Subtree as Known, tip, Layout, subtree, largest-power-below, tree, VersionLeaf, versions-layout, no-leaf, Group, entities-layout, no-group}
-use Rattle.model.specs.Question.{SearchEnd, by-entity, by-time, at-or-before, Opened, stop}
+use Rattle.model.specs.Question.{Relation, at-or-before, at-or-after, SearchEnd, by-entity, by-time, Opened, stop}
 use Rattle.model.proofs.Lists.{map-at}
 use Rattle.accumulator.specs.Halves.{no-known, stored-leaf, stored-leaves}
 use Rattle.accumulator.proofs.Splitting.{split-bounds}
 use Rattle.proof_writer.specs.declared.Span.{Span}
 use Rattle.proof_writer.specs.declared.Sought.the-variants.{Absent, Present}
 use Rattle.proof_writer.specs.StoredLeaves.{key-in, own, LeavesStored}
-use Rattle.proof_writer.specs.Walks.{Among, half-of, EntitySought, Nearest, VersionAt, DepthIs}
+use Rattle.proof_writer.specs.Walks.{Among, half-of, EntitySought, IsNearest, VersionAt, DepthIs}
 use Rattle.proof_writer.proofs.Descents.{Way, way-none, way-least, way-greatest, way-stopped, way-leaf, turns-left, left-greatest, right-least, way-half}
 
 -- ---- leaves
@@ -99,7 +99,7 @@ module _ (span : Span) (target k : ℕ) (split : k ≡ largest-power-below (span
   leaf-right h = took-right span k _ split (ap (λ (m : ℕ). ltb target (span .from + m)) (sym split) ∙ le-ltb target (span .from + k) h)
 
 abbrev EntityWay : ℕ → (Group → Opened) → List Group → ℕ → ℕ → ℕ → Type 0
-EntityWay s f gs from n depth = Way entities-layout (by-entity s) SearchEnd.no-entity f no-group gs from n depth
+EntityWay s f gs from n depth = Way entities-layout (by-entity s) f no-group gs from n depth
 
 pub record Seeking (work : Bytes) (count s : ℕ) (span : Span) (depth : ℕ) : Type 0 where
   pub among : Among count span
@@ -111,7 +111,7 @@ seeking-none work count s h g =
     record {
       among = record { some-leaf = h; inside = omega arith; few = g };
       deep = omega arith;
-      way = λ gs R f. way-none entities-layout (by-entity s) SearchEnd.no-entity f no-group gs count (R .number) h;
+      way = λ gs R f. way-none entities-layout (by-entity s) f no-group gs count (R .number) h;
     }
 
 module _ (work : Bytes) (count s : ℕ) (span : Span) (depth : ℕ) (S : Seeking work count s span depth) (b : Bool)
@@ -127,27 +127,27 @@ module _ (work : Bytes) (count s : ℕ) (span : Span) (depth : ℕ) (S : Seeking
     unfolding by-entity
     stops-is =
         ap₂ (λ (x y : ℕ). ltb s x || ltb y s)
-        (way-least entities-layout (by-entity s) SearchEnd.no-entity f no-group gs (span .from) (span .n) depth W ∙ sym (key (span .from) (omega (arith, S .among .inside, S .among .some-leaf))))
-        (way-greatest entities-layout (by-entity s) SearchEnd.no-entity f no-group gs (span .from) (span .n) depth W ∙ sym (key (span .from + (span .n - 1)) (omega (arith, S .among .inside, S .among .some-leaf))))
+        (way-least entities-layout (by-entity s) f no-group gs (span .from) (span .n) depth W ∙ sym (key (span .from) (omega (arith, S .among .inside, S .among .some-leaf))))
+        (way-greatest entities-layout (by-entity s) f no-group gs (span .from) (span .n) depth W ∙ sym (key (span .from + (span .n - 1)) (omega (arith, S .among .inside, S .among .some-leaf))))
         ∙ sym tested
 
     turns-is : (more : 1 < span .n) (on : by-entity s .stops (subtree entities-layout (tree no-group (W .part))) ≡ false)
-        → turns-left entities-layout (by-entity s) SearchEnd.no-entity f no-group gs (span .from) (span .n) depth W more on
+        → turns-left entities-layout (by-entity s) f no-group gs (span .from) (span .n) depth W more on
         ≡ leb s (key-in work (span .from + (largest-power-below (span .n) - 1)))
     unfolding by-entity turns-left
     turns-is more on =
         let k = split-bounds (span .n) more in
         ap (leb s)
-        (left-greatest entities-layout (by-entity s) SearchEnd.no-entity f no-group gs (span .from) (span .n) depth W more on
+        (left-greatest entities-layout (by-entity s) f no-group gs (span .from) (span .n) depth W more on
         ∙ sym (key (span .from + (largest-power-below (span .n) - 1)) (omega (arith, k .1, S .among .inside, S .among .some-leaf))))
 
   pub seeking-absent : b ≡ true → (gs : List Group) → LeavesStored entities-layout work gs count → EntitySought s gs (Absent (span .from) depth)
-  unfolding EntitySought
+  unfolding EntitySought by-entity
   seeking-absent h gs R =
       record {
         inside = omega (arith, S .among .inside, S .among .some-leaf, R .number);
         shallow = omega (arith, S .deep, R .number);
-        walked = λ f. way-stopped entities-layout (by-entity s) SearchEnd.no-entity f no-group gs (span .from) (span .n) depth (S .way gs R f) (stops-is gs R f ∙ h);
+        walked = λ f. way-stopped entities-layout (by-entity s) f no-group gs (span .from) (span .n) depth (S .way gs R f) (stops-is gs R f ∙ h);
       }
 
   equal : (x y : ℕ) → (ltb s x || ltb y s) ≡ false → x ≡ y → x ≡ s
@@ -171,7 +171,7 @@ module _ (work : Bytes) (count s : ℕ) (span : Span) (depth : ℕ) (S : Seeking
         entity =
             sym (stored-key entities-layout no-group work gs count (span .from) R inside)
             ∙ equal (key-in work (span .from)) (key-in work (span .from + (span .n - 1))) (sym tested ∙ h) (ap (key-in work) one);
-        walked = λ f. way-leaf entities-layout (by-entity s) SearchEnd.no-entity f no-group gs (span .from) (span .n) depth (S .way gs R f) g (stops-is gs R f ∙ h);
+        walked = λ f. way-leaf entities-layout (by-entity s) f no-group gs (span .from) (span .n) depth (S .way gs R f) g (stops-is gs R f ∙ h);
       }
 
   pub seeking-more : b ≡ false → 1 < span .n → (span′ : Span) → span′ ≡ half-of span (leb s (key-in work (span .from + (largest-power-below (span .n) - 1))))
@@ -183,7 +183,7 @@ module _ (work : Bytes) (count s : ℕ) (span : Span) (depth : ℕ) (S : Seeking
         among = half-among count span (S .among) more c;
         deep = omega (arith, half-less count span (S .among) more c, S .deep);
         way = λ gs R f.
-            way-half entities-layout (by-entity s) SearchEnd.no-entity f no-group gs (span .from) (span .n) depth (S .way gs R f) more (stops-is gs R f ∙ h) c (turns-is gs R f more (stops-is gs R f ∙ h));
+            way-half entities-layout (by-entity s) f no-group gs (span .from) (span .n) depth (S .way gs R f) more (stops-is gs R f ∙ h) c (turns-is gs R f more (stops-is gs R f ∙ h));
       })
 
   pub seeking-less : 1 < span .n → (span′ : Span) → span′ ≡ half-of span (leb s (key-in work (span .from + (largest-power-below (span .n) - 1)))) → span′ .n < span .n
@@ -193,15 +193,52 @@ module _ (work : Bytes) (count s : ℕ) (span : Span) (depth : ℕ) (S : Seeking
 
 -- ---- a version
 
-abbrev VersionWay : ℕ → List VersionLeaf → ℕ → ℕ → ℕ → Type 0
-VersionWay t vs from n depth = Way versions-layout (by-time at-or-before t) SearchEnd.not-yet (λ (v : VersionLeaf). stop (SearchEnd.found v)) no-leaf vs from n depth
+abbrev pub at-version : VersionLeaf → Opened
+at-version v = stop (SearchEnd.found v)
+
+abbrev VersionWay : Relation → ℕ → List VersionLeaf → ℕ → ℕ → ℕ → Type 0
+VersionWay r t vs from n depth = Way versions-layout (by-time r t) at-version no-leaf vs from n depth
+
+-- at a subtree that has the nearest leaf, the walk does not stop
+way-goes-on : (r : Relation) (t : ℕ) (vs : List VersionLeaf) (from n depth target : ℕ) (W : VersionWay r t vs from n depth) → IsNearest r t vs target → from ≤ target
+    → target < from + n → from + n ≤ length vs → by-time r t .stops (subtree versions-layout (tree no-leaf (W .part))) ≡ false
+unfolding by-time
+way-goes-on at-or-before t vs from n depth target W N low high inside =
+    ap (ltb t) (way-least versions-layout (by-time at-or-before t) at-version no-leaf vs from n depth W) ∙ le-ltb t _ (N .met from (omega arith) low)
+way-goes-on at-or-after t vs from n depth target W N low high inside =
+    ap (λ (x : ℕ). ltb x t) (way-greatest versions-layout (by-time at-or-after t) at-version no-leaf vs from n depth W)
+    ∙ le-ltb _ t (N .met (from + (n - 1)) (omega arith) (omega arith))
+
+-- and it goes to the half that has it
+way-turns : (r : Relation) (t : ℕ) (vs : List VersionLeaf) (from n depth target : ℕ) (W : VersionWay r t vs from n depth) → IsNearest r t vs target
+    → from + n ≤ length vs → (more : 1 < n) (on : by-time r t .stops (subtree versions-layout (tree no-leaf (W .part))) ≡ false)
+    → turns-left versions-layout (by-time r t) at-version no-leaf vs from n depth W more on ≡ ltb target (from + largest-power-below n)
+unfolding by-time turns-left
+way-turns at-or-before t vs from n depth target W N inside more on =
+    ap (λ (x : ℕ). not (leb x t)) (right-least versions-layout (by-time at-or-before t) at-version no-leaf vs from n depth W more on)
+    ∙ go (split-bounds n more .1) (le-or-lt (from + largest-power-below n) target)
+  where
+    go : largest-power-below n < n → (from + largest-power-below n ≤ target) ⊎ (target < from + largest-power-below n)
+        → not (leb (getD vs (from + largest-power-below n) no-leaf .leaf .time) t) ≡ ltb target (from + largest-power-below n)
+    go k (inl h) = ap not (le-leb _ t (N .met (from + largest-power-below n) (omega arith) h)) ∙ sym (le-ltb target _ h)
+    go k (inr h) =
+        ap not (lt-leb _ t (lt-of-not-le (λ m. let z = N .only (from + largest-power-below n) (omega arith) m in omega arith))) ∙ sym (lt-ltb target _ h)
+way-turns at-or-after t vs from n depth target W N inside more on =
+    ap (leb t) (left-greatest versions-layout (by-time at-or-after t) at-version no-leaf vs from n depth W more on)
+    ∙ go (split-bounds n more .0) (split-bounds n more .1) (le-or-lt (from + largest-power-below n) target)
+  where
+    go : 0 < largest-power-below n → largest-power-below n < n → (from + largest-power-below n ≤ target) ⊎ (target < from + largest-power-below n)
+        → leb t (getD vs (from + (largest-power-below n - 1)) no-leaf .leaf .time) ≡ ltb target (from + largest-power-below n)
+    go j k (inl h) =
+        lt-leb t _ (lt-of-not-le (λ m. let z = N .only (from + (largest-power-below n - 1)) (omega arith) m in omega arith)) ∙ sym (le-ltb target _ h)
+    go j k (inr h) = le-leb t _ (N .met (from + (largest-power-below n - 1)) (omega arith) (omega arith)) ∙ sym (lt-ltb target _ h)
 
 pub record Nearing (count target : ℕ) (span : Span) (depth : ℕ) : Type 0 where
   pub among : Among count span
   pub deep : span .n + depth ≤ count
   pub low : span .from ≤ target
   pub high : target < span .from + span .n
-  pub way : (vs : List VersionLeaf) → count ≡ length vs → (t : ℕ) → Nearest t vs target → VersionWay t vs (span .from) (span .n) depth
+  pub way : (vs : List VersionLeaf) → count ≡ length vs → (r : Relation) (t : ℕ) → IsNearest r t vs target → VersionWay r t vs (span .from) (span .n) depth
 
 pub nearing-none : (count target : ℕ) → target < count → count ≤ 65535 → Nearing count target (record { from = 0; n = count }) 0
 nearing-none count target h g =
@@ -210,36 +247,18 @@ nearing-none count target h g =
       deep = omega arith;
       low = omega arith;
       high = omega arith;
-      way = λ vs e t N.
-          way-none versions-layout (by-time at-or-before t) SearchEnd.not-yet (λ (v : VersionLeaf). stop (SearchEnd.found v)) no-leaf vs count e (omega arith);
+      way = λ vs e r t N. way-none versions-layout (by-time r t) at-version no-leaf vs count e (omega arith);
     }
 
 module _ (count target : ℕ) (span : Span) (depth : ℕ) (S : Nearing count target span depth) where
-  module _ (vs : List VersionLeaf) (e : count ≡ length vs) (t : ℕ) (N : Nearest t vs target) where
-    abbrev U : VersionWay t vs (span .from) (span .n) depth
-    U = S .way vs e t N
-
-    goes-on : by-time at-or-before t .stops (subtree versions-layout (tree no-leaf (U .part))) ≡ false
-    unfolding by-time
-    goes-on =
-        ap (ltb t) (way-least versions-layout (by-time at-or-before t) SearchEnd.not-yet (λ (v : VersionLeaf). stop (SearchEnd.found v)) no-leaf vs (span .from) (span .n) depth U)
-        ∙ le-ltb t _ (N .before (span .from) (S .low))
+  module _ (vs : List VersionLeaf) (e : count ≡ length vs) (r : Relation) (t : ℕ) (N : IsNearest r t vs target) where
+    goes-on : by-time r t .stops (subtree versions-layout (tree no-leaf (S .way vs e r t N .part))) ≡ false
+    goes-on = way-goes-on r t vs (span .from) (span .n) depth target (S .way vs e r t N) N (S .low) (S .high) (omega (arith, S .among .inside))
 
     left-if : (more : 1 < span .n)
-        → turns-left versions-layout (by-time at-or-before t) SearchEnd.not-yet (λ (v : VersionLeaf). stop (SearchEnd.found v)) no-leaf vs (span .from) (span .n) depth U more goes-on
+        → turns-left versions-layout (by-time r t) at-version no-leaf vs (span .from) (span .n) depth (S .way vs e r t N) more goes-on
         ≡ ltb target (span .from + largest-power-below (span .n))
-    unfolding by-time turns-left
-    left-if more =
-        let k = largest-power-below (span .n) in
-        ap (λ (x : ℕ). not (leb x t)) (right-least versions-layout (by-time at-or-before t) SearchEnd.not-yet (λ (v : VersionLeaf). stop (SearchEnd.found v)) no-leaf vs (span .from) (span .n) depth U more goes-on)
-        ∙ go (le-or-lt (span .from + k) target)
-      where
-        go : (span .from + largest-power-below (span .n) ≤ target) ⊎ (target < span .from + largest-power-below (span .n))
-            → not (leb (getD vs (span .from + largest-power-below (span .n)) no-leaf .leaf .time) t) ≡ ltb target (span .from + largest-power-below (span .n))
-        go (inl h) = ap not (le-leb _ t (N .before (span .from + largest-power-below (span .n)) h)) ∙ sym (le-ltb target (span .from + largest-power-below (span .n)) h)
-        go (inr h) =
-            let k = split-bounds (span .n) more in
-            ap not (lt-leb _ t (N .behind (span .from + largest-power-below (span .n)) h (omega (arith, k .1, S .among .inside, e)))) ∙ sym (lt-ltb target (span .from + largest-power-below (span .n)) h)
+    left-if more = way-turns r t vs (span .from) (span .n) depth target (S .way vs e r t N) N (omega (arith, S .among .inside)) more goes-on
 
   half-has : (b : Bool) → ltb target (span .from + largest-power-below (span .n)) ≡ b → 1 < span .n
       → (half-of span b .from ≤ target) × (target < half-of span b .from + half-of span b .n)
@@ -259,8 +278,8 @@ module _ (count target : ℕ) (span : Span) (depth : ℕ) (S : Nearing count tar
         deep = omega (arith, half-less count span (S .among) more c, S .deep);
         low = has .0;
         high = has .1;
-        way = λ vs q t N.
-            way-half versions-layout (by-time at-or-before t) SearchEnd.not-yet (λ (v : VersionLeaf). stop (SearchEnd.found v)) no-leaf vs (span .from) (span .n) depth (S .way vs q t N) more (goes-on vs q t N) c (left-if vs q t N more);
+        way = λ vs q r t N.
+            way-half versions-layout (by-time r t) at-version no-leaf vs (span .from) (span .n) depth (S .way vs q r t N) more (goes-on vs q r t N) c (left-if vs q r t N more);
       })
 
   pub nearing-less : 1 < span .n → (span′ : Span) → span′ ≡ half-of span (ltb target (span .from + largest-power-below (span .n))) → span′ .n < span .n
@@ -272,7 +291,7 @@ module _ (count target : ℕ) (span : Span) (depth : ℕ) (S : Nearing count tar
   nearing-leaf h =
       record {
         shallow = omega (arith, S .deep);
-        at = λ vs e t N.
-            subst (λ (j : ℕ). VersionAt t vs j depth) (let here : span .from ≡ target = omega (arith, S .low, S .high) in here)
-            (record { walked = way-leaf versions-layout (by-time at-or-before t) SearchEnd.not-yet (λ (v : VersionLeaf). stop (SearchEnd.found v)) no-leaf vs (span .from) (span .n) depth (S .way vs e t N) h (goes-on vs e t N) });
+        at = λ vs e r t N.
+            subst (λ (j : ℕ). VersionAt r t vs j depth) (let here : span .from ≡ target = omega (arith, S .low, S .high) in here)
+            (record { walked = way-leaf versions-layout (by-time r t) at-version no-leaf vs (span .from) (span .n) depth (S .way vs e r t N) h (goes-on vs e r t N) });
       }

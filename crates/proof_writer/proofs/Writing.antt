@@ -29,10 +29,10 @@ use Rattle.trees.specs.Tables.{slot-leaf, Graphed, HasGraph}
 use Rattle.trees.proofs.EntityWalk.{slot-node, slot-leaf-is, some-version}
 use Rattle.proof_writer.specs.declared.EntityPath.{EntityPath}
 use Rattle.proof_writer.specs.declared.Planned.{Planned}
-use Rattle.proof_writer.specs.declared.Planned.the-variants.{NoEntity, NotYet, Found}
+use Rattle.proof_writer.specs.declared.Planned.the-variants.{NoEntity, Unmet, Found}
 use Rattle.proof_writer.specs.StoredLeaves.{own, LeavesStored, HasLeaves, groups, versions, version-at, VersionLeavesStored}
 use Rattle.proof_writer.specs.Walks.{onto}
-use Rattle.proof_writer.specs.Plans.{entity-path, entity-string, version-path, path-of, length-of, walk-of, PathFits, PathIs, EntryIs, FoundIs, RestIs, Asks, PlanIs, Plan, HasPlan, EntityFits, EntityPut, front-bytes}
+use Rattle.proof_writer.specs.Plans.{entity-path, entity-string, version-path, path-of, length-of, walk-of, PathFits, PathIs, EntryIs, FoundIs, RestIs, PlanIs, Plan, HasPlan, EntityFits, EntityPut, front-bytes}
 use Rattle.proof_writer.proofs.Descents.{digest-32}
 use Rattle.proof_writer.proofs.StoringLeaves.{graphed-kept}
 
@@ -185,85 +185,85 @@ module _ (work : Bytes) (n : ℕ) (r : Planned) where
       (omega (arith, E .inside, G .number), subst (λ (m : VersionNode). T (is-entry m)) (sym (slot-node work ns entry (G .digested) (E .inside))) (E .enters))
 
   module _ (length′ : ℕ) (p : EntityPath) (e : r ≡ NoEntity length′ p) where
-    no-entity-path : (ns : List VersionNode) (x t : ℕ) → PlanIs work ns x t r → PathIs work ns p × (length′ ≡ 65 + 97 * p .depth)
+    no-entity-path : (ns : List VersionNode) (q : Question) → PlanIs work ns q r → PathIs work ns p × (length′ ≡ 65 + 97 * p .depth)
     unfolding path-of RestIs
-    no-entity-path ns x t I = (subst (λ (z : Planned). PathIs work ns (path-of z)) e (I .path), subst (RestIs ns x) e (I .rest))
+    no-entity-path ns q I = (subst (λ (z : Planned). PathIs work ns (path-of z)) e (I .path), subst (RestIs ns (q .entity)) e (I .rest))
 
     pub no-entity-ready : HasPlan work n r → (room : ℕ) → length-of r ≤ room → HasGraph work n × PathFits work p × (65 + 97 * p .depth ≤ room)
     unfolding length-of
     no-entity-ready H room h =
-        let I = no-entity-path (H .graph .ns) (H .x) (H .t) (H .plan .of (H .graph .ns) (H .graph .graphed)) in
+        let I = no-entity-path (H .graph .ns) (H .q) (H .plan .of (H .graph .ns) (H .graph .graphed)) in
         (H .graph, I .0 .fits, omega (arith, I .1, ap length-of e))
 
     pub no-entity-done : (h : Header) (out out1 : Bytes) → ((ns : List VersionNode) → Graphed work n ns → PathIs work ns p → out1 ≡ written out 0 (joined (root h ns ∷ entity-path ns p)))
-        → (x t : ℕ) → Plan work n x t r → (ns : List VersionNode) → Graphed work n ns → (q : Question) → Asks q x t → out1 ≡ written out 0 (joined (proof h ns q .opened))
+        → (q : Question) → Plan work n q r → (ns : List VersionNode) → Graphed work n ns → out1 ≡ written out 0 (joined (proof h ns q .opened))
     unfolding proof walk-of onto
-    no-entity-done h out out1 f x t P ns G q A =
+    no-entity-done h out out1 f q P ns G =
         let I = P .of ns G in
-        f ns G (no-entity-path ns x t I .0)
+        f ns G (no-entity-path ns q I .0)
         ∙ ap (written out 0)
         (ap (λ (ss : List Bytes). joined (root h ns ∷ ss)) (sym (append-nil (entity-path ns p)))
-        ∙ ap (λ (w : Opened). joined (root h ns ∷ w .opened)) (sym (I .is q A ∙ ap (walk-of ns x) e)))
+        ∙ ap (λ (w : Opened). joined (root h ns ∷ w .opened)) (sym (I .is ∙ ap (walk-of ns q) e)))
 
-  module _ (length′ : ℕ) (p : EntityPath) (entry : ℕ) (e : r ≡ NotYet length′ p entry) where
-    not-yet-path : (ns : List VersionNode) (x t : ℕ) → PlanIs work ns x t r → PathIs work ns p × EntryIs ns x entry × (length′ ≡ 122 + 97 * p .depth)
+  module _ (length′ : ℕ) (p : EntityPath) (entry : ℕ) (e : r ≡ Unmet length′ p entry) where
+    unmet-path : (ns : List VersionNode) (q : Question) → PlanIs work ns q r → PathIs work ns p × EntryIs ns (q .entity) entry × (length′ ≡ 122 + 97 * p .depth)
     unfolding path-of RestIs
-    not-yet-path ns x t I =
-        let z = subst (RestIs ns x) e (I .rest) in
+    unmet-path ns q I =
+        let z = subst (RestIs ns (q .entity)) e (I .rest) in
         (subst (λ (z : Planned). PathIs work ns (path-of z)) e (I .path), z .0, z .1)
 
-    pub not-yet-ready : HasPlan work n r → (room : ℕ) → length-of r ≤ room → PathFits work p × EntityFits work n entry 0 0 room (65 + 97 * p .depth)
+    pub unmet-ready : HasPlan work n r → (room : ℕ) → length-of r ≤ room → PathFits work p × EntityFits work n entry 0 0 room (65 + 97 * p .depth)
     unfolding length-of versions
-    not-yet-ready H room h =
+    unmet-ready H room h =
         let G = H .graph .graphed in
-        let I = not-yet-path (H .graph .ns) (H .x) (H .t) (H .plan .of (H .graph .ns) G) in
-        let F = entry-fits (H .x) (H .graph .ns) G entry (I .1) in (
+        let I = unmet-path (H .graph .ns) (H .q) (H .plan .of (H .graph .ns) G) in
+        let F = entry-fits (H .q .entity) (H .graph .ns) G entry (I .1) in (
           I .0 .fits,
           record {
             graph = H .graph;
             inside = F .0;
             enters = F .1;
-            index-inside = λ ns K. let E = not-yet-path ns (H .x) (H .t) (H .plan .of ns K) .1 in some-version ns entry (K .entered) (E .inside) (E .enters);
+            index-inside = λ ns K. let E = unmet-path ns (H .q) (H .plan .of ns K) .1 in some-version ns entry (K .entered) (E .inside) (E .enters);
             shallow = omega arith;
             space = omega (arith, I .2, ap length-of e);
           },
         )
 
-    pub not-yet-done : (h : Header) (out out1 : Bytes) → ((ns : List VersionNode) → Graphed work n ns → PathIs work ns p → out1 ≡ written out 0 (front-bytes h ns p entry 0 0))
-        → (x t : ℕ) → Plan work n x t r → (ns : List VersionNode) → Graphed work n ns → (q : Question) → Asks q x t → out1 ≡ written out 0 (joined (proof h ns q .opened))
+    pub unmet-done : (h : Header) (out out1 : Bytes) → ((ns : List VersionNode) → Graphed work n ns → PathIs work ns p → out1 ≡ written out 0 (front-bytes h ns p entry 0 0))
+        → (q : Question) → Plan work n q r → (ns : List VersionNode) → Graphed work n ns → out1 ≡ written out 0 (joined (proof h ns q .opened))
     unfolding proof walk-of onto front-bytes version-path
-    not-yet-done h out out1 f x t P ns G q A =
+    unmet-done h out out1 f q P ns G =
         let I = P .of ns G in
-        let J = not-yet-path ns x t I in
+        let J = unmet-path ns q I in
         f ns G (J .0)
         ∙ ap (written out 0)
         (ap₂ (λ (ss : List Bytes) (y : ℕ). joined (root h ns ∷ entity-path ns p) ++ joined (entity-string ns y ∷ ss)) (path-none 0x4e (own versions-layout (versions ns (node-at ns entry .entity))) 0) (J .1 .entity)
-        ∙ sym (joined-append (root h ns ∷ entity-path ns p) (entity-string ns x ∷ []))
-        ∙ ap (λ (w : Opened). joined (root h ns ∷ w .opened)) (sym (I .is q A ∙ ap (walk-of ns x) e)))
+        ∙ sym (joined-append (root h ns ∷ entity-path ns p) (entity-string ns (q .entity) ∷ []))
+        ∙ ap (λ (w : Opened). joined (root h ns ∷ w .opened)) (sym (I .is ∙ ap (walk-of ns q) e)))
 
   module _ (length′ : ℕ) (p : EntityPath) (entry slot index depth : ℕ) (e : r ≡ Found length′ p entry slot index depth) where
-    found-path : (ns : List VersionNode) (x t : ℕ) → PlanIs work ns x t r → PathIs work ns p × FoundIs ns x entry slot index depth × (length′ ≡ 199 + 97 * p .depth + 97 * depth)
+    found-path : (ns : List VersionNode) (q : Question) → PlanIs work ns q r → PathIs work ns p × FoundIs ns (q .entity) entry slot index depth × (length′ ≡ 199 + 97 * p .depth + 97 * depth)
     unfolding path-of RestIs
-    found-path ns x t I =
-        let z = subst (RestIs ns x) e (I .rest) in
+    found-path ns q I =
+        let z = subst (RestIs ns (q .entity)) e (I .rest) in
         (subst (λ (z : Planned). PathIs work ns (path-of z)) e (I .path), z .0, z .1)
 
-    found-here : (ns : List VersionNode) (x t : ℕ) → PlanIs work ns x t r → FoundIs ns (node-at ns entry .entity) entry slot index depth
-    found-here ns x t I = let F = found-path ns x t I .1 in subst (λ (y : ℕ). FoundIs ns y entry slot index depth) (sym (F .entry-is .entity)) F
+    found-here : (ns : List VersionNode) (q : Question) → PlanIs work ns q r → FoundIs ns (node-at ns entry .entity) entry slot index depth
+    found-here ns q I = let F = found-path ns q I .1 in subst (λ (y : ℕ). FoundIs ns y entry slot index depth) (sym (F .entry-is .entity)) F
 
     pub found-ready : HasPlan work n r → (room : ℕ) → length-of r ≤ room
         → PathFits work p × EntityFits work n entry index depth room (65 + 97 * p .depth) × (slot < n) × (199 + 97 * p .depth + 97 * depth ≤ room)
     unfolding length-of
     found-ready H room h =
         let G = H .graph .graphed in
-        let I = found-path (H .graph .ns) (H .x) (H .t) (H .plan .of (H .graph .ns) G) in
-        let F = entry-fits (H .x) (H .graph .ns) G entry (I .1 .entry-is) in (
+        let I = found-path (H .graph .ns) (H .q) (H .plan .of (H .graph .ns) G) in
+        let F = entry-fits (H .q .entity) (H .graph .ns) G entry (I .1 .entry-is) in (
           I .0 .fits,
           record {
             graph = H .graph;
             inside = F .0;
             enters = F .1;
-            index-inside = λ ns K. found-here ns (H .x) (H .t) (H .plan .of ns K) .index-inside;
+            index-inside = λ ns K. found-here ns (H .q) (H .plan .of ns K) .index-inside;
             shallow = I .1 .shallow;
             space = omega (arith, I .2, ap length-of e);
           },
@@ -273,19 +273,19 @@ module _ (work : Bytes) (n : ℕ) (r : Planned) where
 
     pub found-done : (h : Header) (out out1 : Bytes)
         → ((ns : List VersionNode) → Graphed work n ns → PathIs work ns p → FoundIs ns (node-at ns entry .entity) entry slot index depth → out1 ≡ written out 0 (front-bytes h ns p entry index depth ++ leaf-string (version-at ns slot .leaf)))
-        → (x t : ℕ) → Plan work n x t r → (ns : List VersionNode) → Graphed work n ns → (q : Question) → Asks q x t → out1 ≡ written out 0 (joined (proof h ns q .opened))
+        → (q : Question) → Plan work n q r → (ns : List VersionNode) → Graphed work n ns → out1 ≡ written out 0 (joined (proof h ns q .opened))
     unfolding proof walk-of onto front-bytes
-    found-done h out out1 f x t P ns G q A =
+    found-done h out out1 f q P ns G =
         let I = P .of ns G in
-        let J = found-path ns x t I in
+        let J = found-path ns q I in
         let leaf = leaf-string (version-at ns slot .leaf) in
         let front : List Bytes = root h ns ∷ entity-path ns p in
-        let behind : List Bytes = entity-string ns x ∷ version-path ns x index depth in
-        f ns G (J .0) (found-here ns x t I)
+        let behind : List Bytes = entity-string ns (q .entity) ∷ version-path ns (q .entity) index depth in
+        f ns G (J .0) (found-here ns q I)
         ∙ ap (written out 0)
         (ap (λ (y : ℕ). (joined front ++ joined (entity-string ns y ∷ version-path ns y index depth)) ++ leaf) (J .1 .entry-is .entity)
         ∙ append-assoc (joined front) (joined behind) leaf
         ∙ ap (λ (b : Bytes). joined front ++ (joined behind ++ b)) (sym (append-nil leaf))
         ∙ ap (λ (b : Bytes). joined front ++ b) (sym (joined-append behind (leaf ∷ [])))
         ∙ sym (joined-append front (behind ++ (leaf ∷ [])))
-        ∙ ap (λ (w : Opened). joined (root h ns ∷ w .opened)) (sym (I .is q A ∙ ap (walk-of ns x) e)))
+        ∙ ap (λ (w : Opened). joined (root h ns ∷ w .opened)) (sym (I .is ∙ ap (walk-of ns q) e)))

@@ -7,13 +7,13 @@ use lib.ListN.{length}
 use Rattle.fields.specs.Fields.{written}
 use Rattle.model.specs.Numbers.{Bytes, joined}
 use Rattle.model.specs.Graph.{VersionNode, node-at}
-use Rattle.model.specs.Accumulator.{letter-N, letter-P, VersionLeaf, versions-layout, entities-layout, group, version-leaves, is-entry, entity-tree, leaf-string, Header, root}
-use Rattle.model.specs.Question.{Question, at-or-before, SearchEnd, Opened, stop, after, open-versions, open-entities}
+use Rattle.model.specs.Accumulator.{letter-N, letter-P, subtree, VersionLeaf, versions-layout, entities-layout, group, version-leaves, is-entry, entity-tree, leaf-string, Header, root}
+use Rattle.model.specs.Question.{Question, no-entity, SearchEnd, by-time, Opened, stop, after, open-versions, open-entities}
 use Rattle.graph.specs.Table.{node-in}
 use Rattle.accumulator.specs.Halves.{path-to}
 use Rattle.proof_writer.specs.declared.EntityPath.{EntityPath}
 use Rattle.proof_writer.specs.declared.Planned.{Planned}
-use Rattle.proof_writer.specs.declared.Planned.the-variants.{NoEntity, NotYet, Found}
+use Rattle.proof_writer.specs.declared.Planned.the-variants.{NoEntity, Unmet, Found}
 use Rattle.trees.specs.Tables.{Graphed, HasGraph}
 use Rattle.proof_writer.specs.StoredLeaves.{own, LeavesStored, HasLeaves, groups, versions, version-at}
 use Rattle.proof_writer.specs.Walks.{onto}
@@ -40,29 +40,33 @@ front-bytes h ns p entry index depth =
 
 unfoldable pub path-of : Planned → EntityPath
 path-of (NoEntity length p) = p
-path-of (NotYet length p entry) = p
+path-of (Unmet length p entry) = p
 path-of (Found length p entry slot index depth) = p
 
 -- the length of the proof
 unfoldable pub length-of : Planned → ℕ
 length-of (NoEntity length p) = length
-length-of (NotYet length p entry) = length
+length-of (Unmet length p entry) = length
 length-of (Found length p entry slot index depth) = length
 
--- how the proof ends
-unfoldable pub end-of : List VersionNode → Planned → SearchEnd VersionLeaf
-end-of ns (NoEntity length p) = SearchEnd.no-entity
-end-of ns (NotYet length p entry) = SearchEnd.not-yet
-end-of ns (Found length p entry slot index depth) = SearchEnd.found (version-at ns slot)
+-- the stop where no version of the entity meets the time, by what is known of the entity's tree
+unfoldable pub unmet-end : List VersionNode → Question → SearchEnd VersionLeaf
+unmet-end ns q = SearchEnd.not-found (by-time (q .relation) (q .time) .stop-at (subtree versions-layout (group (version-leaves ns) (q .entity) .versions)))
 
--- what the walk to entity x opens below R
-unfoldable pub walk-of : List VersionNode → ℕ → Planned → Opened
-walk-of ns x (NoEntity length p) = onto (entity-path ns p) (stop SearchEnd.no-entity)
-walk-of ns x (NotYet length p entry) = onto (entity-path ns p) (after (entity-string ns x) (stop SearchEnd.not-yet))
-walk-of ns x (Found length p entry slot index depth) =
+-- how the proof ends
+unfoldable pub end-of : List VersionNode → Question → Planned → SearchEnd VersionLeaf
+end-of ns q (NoEntity length p) = SearchEnd.not-found no-entity
+end-of ns q (Unmet length p entry) = unmet-end ns q
+end-of ns q (Found length p entry slot index depth) = SearchEnd.found (version-at ns slot)
+
+-- what the walk opens below R
+unfoldable pub walk-of : List VersionNode → Question → Planned → Opened
+walk-of ns q (NoEntity length p) = onto (entity-path ns p) (stop (SearchEnd.not-found no-entity))
+walk-of ns q (Unmet length p entry) = onto (entity-path ns p) (after (entity-string ns (q .entity)) (stop (unmet-end ns q)))
+walk-of ns q (Found length p entry slot index depth) =
     onto (entity-path ns p)
-    (after (entity-string ns x)
-    (onto (version-path ns x index depth) (after (leaf-string (version-at ns slot .leaf)) (stop (SearchEnd.found (version-at ns slot))))))
+    (after (entity-string ns (q .entity))
+    (onto (version-path ns (q .entity) index depth) (after (leaf-string (version-at ns slot .leaf)) (stop (SearchEnd.found (version-at ns slot))))))
 
 -- there are leaves, and the way leads to one of them; the leaves are those of the entities
 pub record PathFits (work : Bytes) (p : EntityPath) : Type 0 where
@@ -90,23 +94,17 @@ pub record FoundIs (ns : List VersionNode) (x entry slot index depth : ℕ) : Ty
 
 unfoldable pub RestIs : List VersionNode → ℕ → Planned → Type 0
 RestIs ns x (NoEntity length p) = length ≡ 65 + 97 * p .depth
-RestIs ns x (NotYet length p entry) = EntryIs ns x entry × (length ≡ 122 + 97 * p .depth)
+RestIs ns x (Unmet length p entry) = EntryIs ns x entry × (length ≡ 122 + 97 * p .depth)
 RestIs ns x (Found length p entry slot index depth) = FoundIs ns x entry slot index depth × (length ≡ 199 + 97 * p .depth + 97 * depth)
 
--- a question for entity x at time t
-pub record Asks (q : Question) (x t : ℕ) : Type 0 where
-  pub relation : q .relation ≡ at-or-before
-  pub entity : q .entity ≡ x
-  pub time : q .time ≡ t
-
-pub record PlanIs (work : Bytes) (ns : List VersionNode) (x t : ℕ) (r : Planned) : Type 0 where
+pub record PlanIs (work : Bytes) (ns : List VersionNode) (q : Question) (r : Planned) : Type 0 where
   pub path : PathIs work ns (path-of r)
-  pub rest : RestIs ns x r
-  pub is : (q : Question) → Asks q x t → open-entities q (entity-tree ns) ≡ walk-of ns x r
+  pub rest : RestIs ns (q .entity) r
+  pub is : open-entities q (entity-tree ns) ≡ walk-of ns q r
 
--- a plan of the proof for entity x at time t, over a table of n versions
-pub record Plan (work : Bytes) (n x t : ℕ) (r : Planned) : Type 0 where
-  pub of : (ns : List VersionNode) → Graphed work n ns → PlanIs work ns x t r
+-- a plan of the proof for a question, over a table of n versions
+pub record Plan (work : Bytes) (n : ℕ) (q : Question) (r : Planned) : Type 0 where
+  pub of : (ns : List VersionNode) → Graphed work n ns → PlanIs work ns q r
 
 -- what planning asks for once the entity's leaf is reached
 pub record HasEntity (work : Bytes) (n x : ℕ) : Type 0 where
@@ -116,19 +114,19 @@ pub record HasEntity (work : Bytes) (n x : ℕ) : Type 0 where
   pub enters : T (is-entry (node-in work at))
   pub entity : node-in work at .entity ≡ x
 
--- the walk goes on in the tree of entity x
-pub record Reaches (work : Bytes) (ns : List VersionNode) (x : ℕ) (p : EntityPath) : Type 0 where
+-- the walk goes on in the entity's tree
+pub record Reaches (work : Bytes) (ns : List VersionNode) (q : Question) (p : EntityPath) : Type 0 where
   pub path : PathIs work ns p
-  pub is : (q : Question) (t : ℕ) → Asks q x t → open-entities q (entity-tree ns) ≡ onto (entity-path ns p) (after (entity-string ns x) (open-versions at-or-before t (group (version-leaves ns) x .versions)))
+  pub is : open-entities q (entity-tree ns)
+      ≡ onto (entity-path ns p) (after (entity-string ns (q .entity)) (open-versions (q .relation) (q .time) (group (version-leaves ns) (q .entity) .versions)))
 
 -- ---- writing
 
 -- a plan for some question
 pub record HasPlan (work : Bytes) (n : ℕ) (r : Planned) : Type 0 where
   pub graph : HasGraph work n
-  pub x : ℕ
-  pub t : ℕ
-  pub plan : Plan work n x t r
+  pub q : Question
+  pub plan : Plan work n q r
 
 -- room for G and for strings N on the way to a leaf of the entity that a version enters
 pub record EntityFits (work : Bytes) (n entry index depth room at : ℕ) : Type 0 where

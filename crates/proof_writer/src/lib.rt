@@ -11,6 +11,8 @@ use graph::SLOT_WIDTH;
 use model::LETTER_N;
 use model::LETTER_P;
 use question::EntityKey;
+use question::Question;
+use question::Relation;
 use question::TimeKey;
 use strings::BRANCH_WIDTH;
 use strings::DIGEST_WIDTH;
@@ -20,7 +22,7 @@ use strings::R_WIDTH;
 ghost use mathlib.Core.Path.{_≡_};
 ghost use mathlib.Core.Bool.{_||_};
 ghost use mathlib.Core.List.{List, [], _∷_, _++_};
-ghost use Prim.Native.Nat.{ℕ, _+_, _-_, _*_, _≤_, _<_};
+ghost use Prim.Native.Nat.{_+_, _-_, _*_, _≤_, _<_};
 ghost use lib.Dec.{T, ltb, leb};
 ghost use lib.ListN.{length};
 ghost use Rattle.fields.specs.Fields.{written};
@@ -28,14 +30,16 @@ ghost use Rattle.round_constants.specs.Constants.{K};
 ghost use Rattle.model.specs.Numbers.{joined};
 ghost use Rattle.model.specs.Graph.{VersionNode, node-at};
 ghost use Rattle.model.specs.Accumulator.{L-width, branch-width, R-width, largest-power-below, is-entry, Group, entities-layout, leaf-string, root};
-ghost use Rattle.model.specs.Question.{Question};
+ghost use Rattle.model.specs.Question as model;
+ghost use Rattle.model.specs.Exact.{meets};
 ghost use Rattle.model.specs.Answer.{proof};
+ghost use Rattle.question.specs.Directions.{relationOf, questionOf};
 ghost use Rattle.graph.specs.Table.{Slot, time-in, node-in, columns, Kept};
 ghost use Rattle.accumulator.specs.Trees.{headerOf};
 ghost use Rattle.trees.specs.Tables.{Graphed, HasGraph};
 ghost use Rattle.proof_writer.specs.StoredLeaves.{key-in, LeafStored, LeavesStored, HasLeaves, EntityLeavesStored, VersionLeavesStored, version-at};
-ghost use Rattle.proof_writer.specs.Walks.{Among, half-of, EntitySought, DepthIs, latest-of, VersionsOf, HasVersion, FirstVersion};
-ghost use Rattle.proof_writer.specs.Plans.{entity-path, front-bytes, FoundIs, length-of, PathFits, PathIs, Asks, PlanIs, Plan, HasEntity, Reaches, HasPlan, EntityFits, EntityPut};
+ghost use Rattle.proof_writer.specs.Walks.{Among, half-of, EntitySought, DepthIs, nearer-of, nearest-of, VersionsOf, HasVersion, FirstVersion};
+ghost use Rattle.proof_writer.specs.Plans.{entity-path, front-bytes, FoundIs, length-of, PathFits, PathIs, PlanIs, Plan, HasEntity, Reaches, HasPlan, EntityFits, EntityPut};
 
 // ---- stored leaves
 
@@ -215,49 +219,84 @@ fn first_version(work: &[u8], n: usize, entity: EntityKey) -> usize
     i
 }
 
-// How many versions are at or before a time, and the slot of the last of them.
-struct Latest {
-    before: usize,
-    slot: usize,
-}
-
-// One version more.
-fn with_version(work: &[u8], i: usize, time: TimeKey, l: Latest) -> Latest
-    requires { ⌜ Slot (now work) i × (l .before < 65535) ⌝ }
-    ensures { λ r. ⌜ r ≡ latest-of (time .0) (time-in (now (work .entry)) i) i l ⌝ }
+// Whether a version's time is at or before the one asked, or at or after it, as the relation says.
+fn meets(relation: Relation, time: TimeKey, asked: TimeKey) -> bool
+    ensures { λ r. ⌜ r ≡ meets (relationOf relation) (time .0) (asked .0) ⌝ }
 {
-    if time.below(graph::time_of(work, i)) {
-        return l;
-    }
-    Latest {
-        before: l.before + 1,
-        slot: i,
+    match relation {
+        Relation::AtOrBefore => !asked.below(time),
+        Relation::AtOrAfter => !time.below(asked),
     }
 }
 
-// The versions of an entity: all of them, and those at or before a time.
+// The version sought, so far: its place among the entity's versions, and its slot.
+enum Nearest {
+    Nothing,
+    Version { index: usize, slot: usize },
+}
+
+// Of two versions that meet the time, the one sought: looking back the later one, looking ahead the earlier one.
+fn nearer(relation: Relation, earlier: Nearest, later: Nearest) -> Nearest
+    ensures { λ r. ⌜ r ≡ nearer-of (relationOf relation) earlier later ⌝ }
+{
+    match relation {
+        Relation::AtOrBefore => later,
+        Relation::AtOrAfter => match earlier {
+            Nearest::Nothing => later,
+            Nearest::Version { index, slot } => earlier,
+        },
+    }
+}
+
+// One version more, which stands behind those so far.
+fn with_version(
+    work: &[u8],
+    i: usize,
+    index: usize,
+    relation: Relation,
+    time: TimeKey,
+    nearest: Nearest,
+) -> Nearest
+    requires { ⌜ Slot (now work) i ⌝ }
+    ensures { λ r. ⌜ r ≡ nearest-of (relationOf relation) (time .0) (time-in (now (work .entry)) i) index i nearest ⌝ }
+{
+    if meets(relation, graph::time_of(work, i), time) {
+        let here = Nearest::Version {
+            index: index,
+            slot: i,
+        };
+        return nearer(relation, nearest, here);
+    }
+    nearest
+}
+
+// The versions of an entity: their number, and the one sought.
 struct Versions {
     count: usize,
-    before: usize,
-    slot: usize,
+    nearest: Nearest,
 }
 
-fn count_versions(work: &[u8], entry: usize, n: usize, time: TimeKey) -> Versions
+fn count_versions(
+    work: &[u8],
+    entry: usize,
+    n: usize,
+    relation: Relation,
+    time: TimeKey,
+) -> Versions
     requires { ⌜ HasGraph (now work) n × (entry < n) × T (is-entry (node-in (now work) entry)) ⌝ }
-    ensures { λ r. ⌜ ((ns : List VersionNode) → Graphed (now (work .entry)) n ns → VersionsOf ns (node-at ns entry .entity) (time .0) r) ⌝ }
+    ensures { λ r. ⌜ ((ns : List VersionNode) → Graphed (now (work .entry)) n ns → VersionsOf ns (node-at ns entry .entity) (relationOf relation) (time .0) r) ⌝ }
 {
-    let mut l = Latest { before: 0, slot: 0 };
+    let mut nearest = Nearest::Nothing;
     let mut count: usize = 0;
     let mut i = entry;
     while i < NO_SLOT {
-        l = with_version(work, i, time, l);
+        nearest = with_version(work, i, count, relation, time, nearest);
         count += 1;
         i = graph::get_next(work, i) as usize;
     }
     Versions {
         count: count,
-        before: l.before,
-        slot: l.slot,
+        nearest: nearest,
     }
 }
 
@@ -273,14 +312,14 @@ pub struct EntityPath {
     depth: usize,
 }
 
-// How a proof ends, its length, and what writing it needs: the slot of the entity's first version, the slot of the version found, its
-// place among the entity's versions and how many strings N lead to it.
+// How a proof ends (`Unmet`: no version of the entity meets the time), its length, and what writing it needs: the slot of the entity's first
+// version, the slot of the version found, its place among the entity's versions and how many strings N lead to it.
 pub enum Planned {
     NoEntity {
         length: usize,
         path: EntityPath,
     },
-    NotYet {
+    Unmet {
         length: usize,
         path: EntityPath,
         entry: usize,
@@ -296,46 +335,43 @@ pub enum Planned {
 }
 
 // The plan from the entity's leaf on.
-fn plan_entity(work: &[u8], n: usize, path: EntityPath, entity: EntityKey, time: TimeKey) -> Planned
-    requires { ⌜ HasEntity (now work) n (entity .0) × (path .depth ≤ 65535) ⌝ }
-    ensures { λ r. ⌜ ((ns : List VersionNode) → Graphed (now (work .entry)) n ns → Reaches (now (work .entry)) ns (entity .0) path → PlanIs (now (work .entry)) ns (entity .0) (time .0) r) ⌝ }
+fn plan_entity(work: &[u8], n: usize, path: EntityPath, question: Question) -> Planned
+    requires { ⌜ HasEntity (now work) n (question .entity .0) × (path .depth ≤ 65535) ⌝ }
+    ensures { λ r. ⌜ ((ns : List VersionNode) → Graphed (now (work .entry)) n ns → Reaches (now (work .entry)) ns (questionOf question) path → PlanIs (now (work .entry)) ns (questionOf question) r) ⌝ }
 {
-    let entry = first_version(work, n, entity);
-    let v = count_versions(work, entry, n, time);
+    let entry = first_version(work, n, question.entity);
+    let relation = question.relation;
+    let v = count_versions(work, entry, n, relation, question.time);
     let length = R_G_WIDTH + BRANCH_WIDTH * path.depth;
-    if v.before == 0 {
-        return Planned::NotYet {
+    let nearest = v.nearest;
+    match nearest {
+        Nearest::Nothing => Planned::Unmet {
             length: length,
             path: path,
             entry: entry,
-        };
-    }
-    let index = v.before - 1;
-    let depth = leaf_depth(v.count, index);
-    Planned::Found {
-        length: length + (BRANCH_WIDTH * depth + L_WIDTH),
-        path: path,
-        entry: entry,
-        slot: v.slot,
-        index: index,
-        depth: depth,
+        },
+        Nearest::Version { index, slot } => {
+            let depth = leaf_depth(v.count, index);
+            Planned::Found {
+                length: length + (BRANCH_WIDTH * depth + L_WIDTH),
+                path: path,
+                entry: entry,
+                slot: slot,
+                index: index,
+                depth: depth,
+            }
+        }
     }
 }
 
 // Stores the leaves of the entities and plans the proof.
-pub fn plan(
-    work: &mut [u8],
-    n: usize,
-    entity: EntityKey,
-    time: TimeKey,
-    constants: &[u32; 64],
-) -> Planned
+pub fn plan(work: &mut [u8], n: usize, question: Question, constants: &[u32; 64]) -> Planned
     requires { ⌜ (HasGraph (now work) n) × (now constants ≡ K) ⌝ }
-    ensures plan { λ r. ⌜ Plan (now (work .exit)) n (entity .0) (time .0) r ⌝ }
+    ensures plan { λ r. ⌜ Plan (now (work .exit)) n (questionOf question) r ⌝ }
     ensures kept { λ _. ⌜ Kept (columns 84 124 ∷ []) (now (work .entry)) (now (work .exit)) ⌝ }
 {
     let count = put_entity_leaves(work, n, constants);
-    match seek_entity(work, count, entity) {
+    match seek_entity(work, count, question.entity) {
         Sought::Absent { target, depth } => Planned::NoEntity {
             length: R_WIDTH + BRANCH_WIDTH * depth,
             path: EntityPath {
@@ -350,7 +386,7 @@ pub fn plan(
                 target: target,
                 depth: depth,
             };
-            plan_entity(work, n, path, entity, time)
+            plan_entity(work, n, path, question)
         }
     }
 }
@@ -360,7 +396,7 @@ pub fn proof_length(plan: Planned) -> usize
 {
     match plan {
         Planned::NoEntity { length, path } => length,
-        Planned::NotYet {
+        Planned::Unmet {
             length,
             path,
             entry,
@@ -524,12 +560,12 @@ pub fn write(
     constants: &[u32; 64],
 )
     requires { ⌜ (HasPlan (now work) n plan × (length-of plan ≤ length (now out))) × (now constants ≡ K) ⌝ }
-    ensures proof { λ _. ⌜ ((x t : ℕ) → Plan (now (work .entry)) n x t plan → (ns : List VersionNode) → Graphed (now (work .entry)) n ns → (q : Question) → Asks q x t → now (out .exit) ≡ written (now (out .entry)) 0 (joined (proof (headerOf header) ns q .opened))) ⌝ }
+    ensures proof { λ _. ⌜ ((q : model.Question) → Plan (now (work .entry)) n q plan → (ns : List VersionNode) → Graphed (now (work .entry)) n ns → now (out .exit) ≡ written (now (out .entry)) 0 (joined (proof (headerOf header) ns q .opened))) ⌝ }
     ensures kept { λ _. ⌜ Kept (columns 84 124 ∷ []) (now (work .entry)) (now (work .exit)) ⌝ }
 {
     match plan {
         Planned::NoEntity { length, path } => put_front(work, n, header, path, out, constants),
-        Planned::NotYet {
+        Planned::Unmet {
             length,
             path,
             entry,

@@ -1,6 +1,6 @@
--- Each direction in turn, and what one that was decoded asks. Assumes nothing.
-use mathlib.Core.Path.{_≡_, refl, sym, subst}
-use Prim.Native.Nat.{ℕ}
+-- The part that each direction asks for, and what one that was read asks. Assumes nothing.
+use mathlib.Core.Path.{_≡_, refl, sym, ap, _∙_, subst}
+use Prim.Native.Nat.{ℕ, _+_, _-_, _≤_, _<_}
 use native.Mathlib.Omega.{arith}
 use Rattle.model.specs.Result.{ok, refuse}
 use Rattle.model.specs.Question.{question}
@@ -8,40 +8,59 @@ use Rattle.model.proofs.Asking as asking
 use Rattle.question.specs.declared.Way.the-variants.{Backward, Forward}
 use Rattle.question.specs.declared.Part.{Part}
 use Rattle.question.specs.declared.Part.the-variants.{VersionOnly, Trace}
+use Rattle.question.specs.declared.Relation.the-variants.{AtOrBefore, AtOrAfter}
+use Rattle.question.specs.declared.EntityKey.{EntityKey}
+use Rattle.question.specs.declared.TimeKey.{TimeKey}
+use Rattle.question.specs.declared.Question.{Question}
 use Rattle.question.specs.declared.Asked.{Asked}
 use Rattle.question.specs.declared.Asked.the-variants.{Known, Unknown}
 use Rattle.question.specs.Ways.{wayOf}
-use Rattle.question.specs.Directions as directions
-use Rattle.question.specs.Directions.{partOf, AskedIs, known, unknown}
+use Rattle.question.specs.Directions.{relationOf, partOf, questionOf, PartIs, AskedIs, known, unknown}
 
-module _ (direction : ℕ) where
-  is : (d : ℕ) (a : Asked) → direction ≡ d → AskedIs d a → AskedIs direction a
-  is d a e h = subst (λ (x : ℕ). AskedIs x a) (sym e) h
+-- ---- the part
 
-  pub version-only : direction ≡ 0 → AskedIs direction (Known VersionOnly)
+module _ (n : ℕ) where
+  is : (d : ℕ) (p : Part) → n ≡ d → PartIs d p → PartIs n p
+  is d p e h = subst (λ (x : ℕ). PartIs x p) (sym e) h
+
+  pub version-only : n ≡ 0 → PartIs n VersionOnly
   unfolding question partOf
-  version-only e = is 0 (Known VersionOnly) e (known VersionOnly (λ s t. refl))
+  version-only e = is 0 VersionOnly e (record { before = λ s t. refl; after = λ s t. refl })
 
-  pub backward : direction ≡ 1 → AskedIs direction (Known (Trace Backward))
+  pub backward : n ≡ 1 → PartIs n (Trace Backward)
   unfolding question partOf wayOf
-  backward e = is 1 (Known (Trace Backward)) e (known (Trace Backward) (λ s t. refl))
+  backward e = is 1 (Trace Backward) e (record { before = λ s t. refl; after = λ s t. refl })
 
-  pub forward : direction ≡ 2 → AskedIs direction (Known (Trace Forward))
+  pub forward : n < 3 → (n ≡ 0 → ⊥) → (n ≡ 1 → ⊥) → PartIs n (Trace Forward)
   unfolding question partOf wayOf
-  forward e = is 2 (Known (Trace Forward)) e (known (Trace Forward) (λ s t. refl))
+  forward h a b = is 2 (Trace Forward) (omega arith) (record { before = λ s t. refl; after = λ s t. refl })
 
-  pub none : (direction ≡ 0 → ⊥) → (direction ≡ 1 → ⊥) → (direction ≡ 2 → ⊥) → AskedIs direction Unknown
-  none a b c = unknown (λ s t. asking.unknown direction s t (omega arith))
+-- ---- the question
 
-  module _ (a : Asked) (h : AskedIs direction a) where
-    pub known-asks : (p : Part) → a ≡ Known p → (s t : ℕ) → question direction s t ≡ ok (directions.asking p s t)
-    known-asks p e = go (subst (AskedIs direction) e h)
-      where
-        go : AskedIs direction (Known p) → (s t : ℕ) → question direction s t ≡ ok (directions.asking p s t)
-        go (known _ q) = q
+module _ (direction : ℕ) (entity : EntityKey) (time : TimeKey) where
+  pub looks-back : (p : Part) → PartIs direction p
+      → AskedIs direction (entity .0) (time .0) (Known (record { relation = AtOrBefore; part = p; entity = entity; time = time }))
+  unfolding relationOf
+  looks-back p h = known _ (h .before (entity .0) (time .0))
 
-    pub unknown-refused : a ≡ Unknown → (s t : ℕ) → question direction s t ≡ refuse 11 0
-    unknown-refused e = go (subst (AskedIs direction) e h)
-      where
-        go : AskedIs direction Unknown → (s t : ℕ) → question direction s t ≡ refuse 11 0
-        go (unknown q) = q
+  pub looks-ahead : (p : Part) → 3 ≤ direction → PartIs (direction - 3) p
+      → AskedIs direction (entity .0) (time .0) (Known (record { relation = AtOrAfter; part = p; entity = entity; time = time }))
+  unfolding relationOf
+  looks-ahead p a h =
+      known _ (ap (λ (d : ℕ). question d (entity .0) (time .0)) (let e : direction ≡ direction - 3 + 3 = omega arith in e) ∙ h .after (entity .0) (time .0))
+
+  pub none : 6 ≤ direction → AskedIs direction (entity .0) (time .0) Unknown
+  none h = unknown (asking.unknown direction (entity .0) (time .0) (omega arith))
+
+module _ (direction s t : ℕ) (a : Asked) (h : AskedIs direction s t a) where
+  pub known-asks : (q : Question) → a ≡ Known q → question direction s t ≡ ok (questionOf q)
+  known-asks q e = go (subst (AskedIs direction s t) e h)
+    where
+      go : AskedIs direction s t (Known q) → question direction s t ≡ ok (questionOf q)
+      go (known _ k) = k
+
+  pub unknown-refused : a ≡ Unknown → question direction s t ≡ refuse 11 0
+  unknown-refused e = go (subst (AskedIs direction s t) e h)
+    where
+      go : AskedIs direction s t Unknown → question direction s t ≡ refuse 11 0
+      go (unknown k) = k

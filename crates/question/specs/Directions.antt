@@ -1,11 +1,14 @@
--- A direction, as document 01's question has it. Assumes nothing.
+-- A question and its direction, as documents 01 and 02 have them. Assumes nothing.
 use mathlib.Core.Path.{_≡_}
-use Prim.Native.Nat.{ℕ}
+use Prim.Native.Nat.{ℕ, _+_}
 use Rattle.model.specs.Result.{ok, refuse}
 use Rattle.model.specs.Rows.{direction-unknown}
 use Rattle.model.specs.Question as model
 use Rattle.question.specs.declared.Part.{Part}
 use Rattle.question.specs.declared.Part.the-variants.{VersionOnly, Trace}
+use Rattle.question.specs.declared.Relation.{Relation}
+use Rattle.question.specs.declared.Relation.the-variants.{AtOrBefore, AtOrAfter}
+use Rattle.question.specs.declared.Question.{Question}
 use Rattle.question.specs.declared.Asked.{Asked}
 use Rattle.question.specs.declared.Asked.the-variants.{Known, Unknown}
 use Rattle.question.specs.Ways.{wayOf}
@@ -14,11 +17,19 @@ unfoldable pub partOf : Part → model.Part
 partOf VersionOnly = model.version-only
 partOf (Trace way) = model.trace-of (wayOf way)
 
--- the question that asks for a part, of the version of s at or before t
-abbrev pub asking : Part → ℕ → ℕ → model.Question
-asking p s t = record { relation = model.at-or-before; part = partOf p; entity = s; time = t }
+unfoldable pub relationOf : Relation → model.Relation
+relationOf AtOrBefore = model.at-or-before
+relationOf AtOrAfter = model.at-or-after
 
--- what a direction asks, whatever the entity and the time; or row 11
-pub data AskedIs (direction : ℕ) : Asked → Type 0 where
-  known : (p : Part) → ((s t : ℕ) → model.question direction s t ≡ ok (asking p s t)) → AskedIs direction (Known p)
-  unknown : ((s t : ℕ) → model.question direction s t ≡ refuse direction-unknown 0) → AskedIs direction Unknown
+abbrev pub questionOf : Question → model.Question
+questionOf q = model.asked (relationOf (q .relation)) (partOf (q .part)) (q .entity .0) (q .time .0)
+
+-- "Directions 3, 4 and 5 are 0, 1 and 2 for the version with the least time at or after t": the part of n and of n + 3
+pub record PartIs (n : ℕ) (p : Part) : Type 0 where
+  pub before : (s t : ℕ) → model.question n s t ≡ ok (model.asked model.at-or-before (partOf p) s t)
+  pub after : (s t : ℕ) → model.question (n + 3) s t ≡ ok (model.asked model.at-or-after (partOf p) s t)
+
+-- what a direction asks of an entity and a time; or row 11
+pub data AskedIs (direction s t : ℕ) : Asked → Type 0 where
+  known : (q : Question) → model.question direction s t ≡ ok (questionOf q) → AskedIs direction s t (Known q)
+  unknown : model.question direction s t ≡ refuse direction-unknown 0 → AskedIs direction s t Unknown

@@ -241,9 +241,11 @@ mod tests {
             assert_eq!(count(strings(Name::Answer, direction)), [40, 40, 40, 2, 38, 1, 0]);
         }
         for call in [Name::Check, Name::Records] {
-            assert_eq!(count(strings(call, "only")), [0, 0, 1, 1, 3, 1, 1]);
-            assert_eq!(count(strings(call, "backward")), [40, 0, 1, 1, 3, 1, 1]);
-            assert_eq!(count(strings(call, "forward")), [0, 39, 1, 1, 5, 1, 1]);
+            for (only, backward, forward) in [("only", "backward", "forward"), ("only-after", "backward-after", "forward-after")] {
+                assert_eq!(count(strings(call, only)), [0, 0, 1, 1, 3, 1, 1]);
+                assert_eq!(count(strings(call, backward)), [40, 0, 1, 1, 3, 1, 1]);
+                assert_eq!(count(strings(call, forward)), [0, 39, 1, 1, 5, 1, 1]);
+            }
         }
         assert!(strings(Name::Log, "-").is_empty() && strings(Name::Listing, "-").is_empty());
     }

@@ -5,7 +5,7 @@ use reference::log::{read, write, Record};
 use reference::random::Random;
 use reference::sample::{in_turn, one_source};
 use reference::sha256::Digest;
-use reference::{Question, FORWARD};
+use reference::{Question, Way};
 
 /// A sound log of that many records: births and flows at random, one birth in three, flows among a quarter as many entities, one source of
 /// every flow, or two entities that feed each other in turn.
@@ -54,13 +54,17 @@ pub struct Asked {
 }
 
 impl Asked {
-    /// Forward the question is for all that came of the log's first version, else for its last version, or all that led to it. In the
-    /// shapes busy and turns that is the full history: every record, or every one but a birth.
+    /// Forward the question is for all that came of the log's first version, else for its last version, or all that led to it; at the
+    /// version's own time, so that either relation finds it. In the shapes busy and turns that is the full history: every record, or every
+    /// one but a birth.
     pub fn new(log: &[u8], direction: u8) -> Self {
         let records = read(log).expect("a sound log");
-        let record = if direction == FORWARD { records[0] } else { records[records.len() - 1] };
-        let (Record::Birth { entity, time } | Record::Flow { destination: entity, time, .. }) = record;
-        let question = Question { direction, entity, time };
+        let ask = |record| {
+            let (Record::Birth { entity, time } | Record::Flow { destination: entity, time, .. }) = record;
+            Question { direction, entity, time }
+        };
+        let (first, last) = (ask(records[0]), ask(records[records.len() - 1]));
+        let question = if first.way() == Some(Way::Forward) { first } else { last };
         let host = Host::new(&records);
         Asked { question, commitment: host.commitment(), answer: host.answer(&question) }
     }

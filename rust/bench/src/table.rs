@@ -3,7 +3,7 @@
 use calls::Name;
 
 /// A question's directions by number.
-pub const DIRECTIONS: [&str; 3] = ["only", "backward", "forward"];
+pub const DIRECTIONS: [&str; 6] = ["only", "backward", "forward", "only-after", "backward-after", "forward-after"];
 
 /// What a row measures.
 #[derive(Clone, Copy, Debug, PartialEq, Eq)]
@@ -22,7 +22,7 @@ const GROWTH: [usize; 2] = [8_192, 65_535];
 
 /// Calls, directions and shapes: for log and commitment the mixed shape and the worst of the others by time, for the calls on a question
 /// the worse of two full histories by instructions.
-const KINDS: [(Name, &str, &str); 14] = [
+const KINDS: [(Name, &str, &str); 20] = [
     (Name::Hash, "-", "tuned"),
     (Name::Hash, "-", "plain"),
     (Name::Log, "-", "mixed"),
@@ -33,23 +33,31 @@ const KINDS: [(Name, &str, &str); 14] = [
     (Name::Answer, "only", "busy"),
     (Name::Answer, "backward", "busy"),
     (Name::Answer, "forward", "turns"),
+    (Name::Answer, "only-after", "busy"),
+    (Name::Answer, "backward-after", "busy"),
+    (Name::Answer, "forward-after", "turns"),
     (Name::Check, "only", "busy"),
     (Name::Check, "backward", "busy"),
     (Name::Check, "forward", "turns"),
+    (Name::Check, "only-after", "busy"),
+    (Name::Check, "backward-after", "busy"),
+    (Name::Check, "forward-after", "turns"),
     (Name::Records, "forward", "turns"),
 ];
 
-fn sizes(call: Name) -> &'static [usize] {
+/// A direction at or after a time differs from that at or before in the walk alone, so it has the sizes of the growth and no other.
+fn sizes(call: Name, direction: &str) -> &'static [usize] {
     match call {
         Name::Hash => &[97, 1 << 20],
         Name::Listing => &[512],
+        _ if direction.ends_with("-after") => &GROWTH,
         _ => &[1_024, GROWTH[0], GROWTH[1]],
     }
 }
 
 pub fn subjects() -> Vec<Subject> {
     let subject = |(call, direction, shape): (Name, &'static str, &'static str)| {
-        sizes(call).iter().map(move |&size| Subject { call, direction, shape, size })
+        sizes(call, direction).iter().map(move |&size| Subject { call, direction, shape, size })
     };
     KINDS.into_iter().flat_map(subject).collect()
 }
@@ -78,7 +86,7 @@ const HEADINGS: [&str; 14] = [
 ];
 /// The columns before the first number.
 const NAMES: usize = 3;
-const WIDTHS: [usize; HEADINGS.len()] = [10, 8, 5, 9, 7, 7, 10, 12, 6, 6, 6, 6, 9, 9];
+const WIDTHS: [usize; HEADINGS.len()] = [10, 14, 5, 9, 7, 7, 10, 12, 6, 6, 6, 6, 9, 9];
 
 impl Row {
     fn a_record(&self, number: f64) -> f64 {
@@ -175,6 +183,11 @@ mod tests {
             assert_eq!(row(call, shape, 65_535, None).growth(&before), None);
         }
         assert_eq!(row(Name::Commitment, "flows", 65_535, Some(1)).growth(&before), None);
+    }
+
+    #[test]
+    fn directions_have_the_viewers_words() {
+        assert_eq!(DIRECTIONS.map(String::from), viewer::DIRECTIONS.map(|direction| direction.to_string()));
     }
 
     #[test]

@@ -97,7 +97,9 @@ mod tests {
     #[test]
     fn a_word_that_is_no_direction_is_said() {
         assert_eq!(direction("backward"), Ok(Direction::Backward));
-        assert_eq!(direction("3"), Err(Failure::Use("DIRECTION '3' is none of only, backward, forward, 0, 1, 2".into())));
+        assert_eq!((direction("backward-after"), direction("4")), (Ok(Direction::BackwardAfter), Ok(Direction::BackwardAfter)));
+        let said = "DIRECTION '6' is none of only, backward, forward, only-after, backward-after, forward-after, 0 to 5";
+        assert_eq!(direction("6"), Err(Failure::Use(said.into())));
     }
 
     #[test]

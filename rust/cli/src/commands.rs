@@ -145,7 +145,7 @@ last line, with status 1.
         shown: "[--json] [--seed NUMBER] [--limit SECONDS] [--keep FOLDER] [-- PROGRAM WORD..]",
         about: "runs participants' programs on made logs, and counts the answers that the check accepts",
         details: "\
-HOST is run once for each question, with the direction (0, 1 or 2), the entity and the time as its words and the log on standard input;
+HOST is run once for each question, with the direction (0 to 5), the entity and the time as its words and the log on standard input;
 it writes the answer to standard output and ends with status 0, within 10 seconds or the limit given. It is run as any program of yours
 is: nothing confines it. What follows '--' is put before HOST, or is the host if none is named: 'mark -- python3 host.py'.
 

@@ -13,8 +13,12 @@ use crate::textlog;
 /// Document 01's Log K.
 const LOG_K: &str = "birth 1 10\nbirth 2 20\nflow 1 2 7 30\nflow 2 1 8 40\n";
 
-const QUESTIONS: [Question; 2] =
-    [Question { direction: Direction::Backward, entity: 2, time: 35 }, Question { direction: Direction::Forward, entity: 1, time: 39 }];
+const QUESTIONS: [Question; 4] = [
+    Question { direction: Direction::Backward, entity: 2, time: 35 },
+    Question { direction: Direction::Forward, entity: 1, time: 39 },
+    Question { direction: Direction::ForwardAfter, entity: 2, time: 21 },
+    Question { direction: Direction::VersionOnlyAfter, entity: 2, time: 31 },
+];
 
 pub fn run(_: &Words) -> Done {
     let log = textlog::to_bytes(LOG_K.as_bytes()).map_err(Failure::Use)?;

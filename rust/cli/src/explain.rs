@@ -235,7 +235,7 @@ fn number(bytes: &[u8]) -> u64 {
 mod tests {
     use super::*;
     use reference::random::Random;
-    use viewer::{Direction, Question};
+    use viewer::{Question, DIRECTIONS};
 
     fn log() -> Vec<u8> {
         reference::log::write(&reference::random::sound_records(&mut Random::new(5), 60))
@@ -244,7 +244,7 @@ mod tests {
     fn answers() -> Vec<Vec<u8>> {
         let (log, mut random, mut answers) = (log(), Random::new(6), Vec::new());
         let records = reference::log::read(&log).unwrap();
-        for direction in [Direction::VersionOnly, Direction::Backward, Direction::Forward].into_iter().cycle().take(60) {
+        for direction in DIRECTIONS.into_iter().cycle().take(60) {
             let entity = random.pick(&reference::log::births(&records).collect::<Vec<_>>()).saturating_add(random.below(2) as u32);
             let time = random.pick(&records).time().saturating_sub(random.below(2));
             answers.push(crate::calls::answer(&Question { direction, entity, time }, &log).unwrap());

@@ -6,8 +6,9 @@ use crate::failure::Failure;
 
 const WORDS: &str = "\
 LOG          a log, as bytes (see 'log' for its text form)
-DIRECTION    only, backward or forward (or 0, 1, 2)
-ENTITY, TIME the version sought is the last one of ENTITY at or before TIME
+DIRECTION    only, backward or forward, of the last version at or before TIME; only-after, backward-after or forward-after, of the first
+             at or after it (or 0 to 5)
+ENTITY, TIME in decimal: a version of ENTITY is sought, by TIME as DIRECTION says
 COMMITMENT   64 hex digits, or a file that holds them or the 32 bytes themselves
 ANSWER       an answer, as bytes
 A file may be '-': standard input, or standard output after -o and --svg.

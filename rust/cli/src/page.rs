@@ -1,6 +1,6 @@
 //! A checked history as one page for a browser, which needs nothing from outside.
 
-use viewer::{Direction, Question, Record};
+use viewer::{Question, Record, Way};
 
 use crate::history::{self, History};
 use crate::json;
@@ -23,7 +23,7 @@ pub fn page(head: &Head, history: &History, names: Option<&Names>) -> String {
 /// The records column by column; a place is -1 where there is no such edge. Times are texts, because a browser's numbers have 53 bits.
 fn data(head: &Head, history: &History, names: Option<&Names>) -> String {
     let column = |of: fn(&Record) -> String| json::list(history.records.iter().map(of));
-    let way = if head.question.direction == Direction::Forward { "forward" } else { "backward" };
+    let way = if head.question.direction.way() == Some(Way::Forward) { "forward" } else { "backward" };
     let mut fields = vec![
         ("asked", json::text(&history::asked(head.question))),
         ("verdict", json::text(head.verdict)),
@@ -47,6 +47,7 @@ fn start(record: &Record, dependency: bool) -> String {
 #[cfg(test)]
 mod tests {
     use super::*;
+    use viewer::Direction;
 
     fn shown(names: Option<&Names>) -> String {
         let question = Question { direction: Direction::Backward, entity: 2, time: 35 };
@@ -67,6 +68,20 @@ mod tests {
             r#""entity":[1,2,2],"time":["10","20","18446744073709551615"],"previous":[-1,-1,1],"source":[-1,-1,0],"kind":[0,0,7]}"#
         );
         assert!(page.contains(&format!("<script type=\"application/json\" id=\"data\">{data}</script>")), "{page}");
+    }
+
+    #[test]
+    fn a_page_says_its_question_and_its_way() {
+        for (direction, asked, way) in [
+            (Direction::Forward, "2 at 21, forward", "forward"),
+            (Direction::BackwardAfter, "2 at or after 21, backward", "backward"),
+            (Direction::ForwardAfter, "2 at or after 21, forward", "forward"),
+        ] {
+            let question = Question { direction, entity: 2, time: 21 };
+            let page = page(&Head { question: &question, verdict: "said", commitment: "00" }, &History::new(direction, Vec::new()), None);
+            assert!(page.contains(&format!("<title>{asked}: said</title>")), "{page}");
+            assert!(page.contains(&format!("{{\"asked\":\"{asked}\"")) && page.contains(&format!("\"way\":\"{way}\"")), "{page}");
+        }
     }
 
     #[test]

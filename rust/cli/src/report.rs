@@ -26,11 +26,10 @@ pub fn accepted(question: &Question, commitment: &[u8; DIGEST], checked: &Checke
     ];
     match checked.verdict {
         Verdict::NoEntity => fields.push(("verdict", text("no entity"))),
-        Verdict::NotYet => fields.push(("verdict", text("not yet"))),
+        Verdict::NotYet { first } => fields.extend([("verdict", text("not yet")), ("first", text(&first.to_string()))]),
+        Verdict::NoneSoLate { last } => fields.extend([("verdict", text("none so late")), ("last", text(&last.to_string()))]),
         Verdict::Found { time, count } => {
-            fields.push(("verdict", text("found")));
-            fields.push(("found", text(&time.to_string())));
-            fields.push(("records", count.to_string()));
+            fields.extend([("verdict", text("found")), ("found", text(&time.to_string())), ("records", count.to_string())]);
         }
     }
     fields.extend(history.map(|history| ("versions", list(history.records.iter().map(version)))));

@@ -66,6 +66,7 @@ pub fn question(random: &mut Random, sample: &Sample, direction: Direction) -> Q
 mod tests {
     use super::*;
     use crate::textlog;
+    use viewer::{Relation, DIRECTIONS};
 
     #[test]
     fn logs_are_sound_and_have_the_records_asked_for() {
@@ -105,22 +106,35 @@ mod tests {
         assert!(met.iter().all(|times| *times > 30), "{met:?}");
     }
 
-    #[test]
-    fn every_verdict_is_asked_for() {
+    /// How often each verdict is true of 300 questions: no entity, not yet, none so late, found.
+    fn verdicts(direction: Direction) -> [usize; 4] {
         let mut random = Random::new(1);
         let sample = log(&mut random, 30);
         let log = textlog::to_bytes(sample.text.as_bytes()).unwrap();
         let commitment = crate::calls::commitment(&log).unwrap();
-        let mut met = [0; 3];
+        let mut met = [0; 4];
         for _ in 0..300 {
-            let question = question(&mut random, &sample, Direction::Backward);
+            let question = question(&mut random, &sample, direction);
             let answer = crate::calls::answer(&question, &log).unwrap();
             met[match crate::calls::checked(&question, &commitment, &answer).unwrap().verdict {
                 viewer::Verdict::NoEntity => 0,
-                viewer::Verdict::NotYet => 1,
-                viewer::Verdict::Found { .. } => 2,
+                viewer::Verdict::NotYet { .. } => 1,
+                viewer::Verdict::NoneSoLate { .. } => 2,
+                viewer::Verdict::Found { .. } => 3,
             }] += 1;
         }
-        assert!(met.iter().all(|times| *times > 10), "{met:?}");
+        met
+    }
+
+    #[test]
+    fn every_verdict_is_asked_for() {
+        for direction in DIRECTIONS {
+            let [no_entity, not_yet, none_so_late, found] = verdicts(direction);
+            let (stop, other) = match direction.relation() {
+                Relation::AtOrBefore => (not_yet, none_so_late),
+                Relation::AtOrAfter => (none_so_late, not_yet),
+            };
+            assert!([no_entity, stop, found].iter().all(|times| *times > 10) && other == 0, "{direction}");
+        }
     }
 }

@@ -26,18 +26,27 @@ fn a_backward_answer_is_the_table_of_the_handout() {
 fn a_forward_trace_is_the_table_of_the_handout_further_on() {
     let k = Logged::k();
     let proof = k.answer(0, 2, 20).len();
-    let text = String::from_utf8(explained(&k.answer(2, 2, 20)).good()).unwrap();
-    let trace = text.lines().filter_map(|line| {
-        let (place, rest) = line.trim_start().split_once(' ')?;
-        Some(format!("{:>4} {rest}\n", place.parse::<usize>().ok()?.checked_sub(proof)?))
-    });
-    assert_eq!(trace.collect::<String>(), block("forward"));
+    for (answer, name) in [(k.answer(2, 2, 20), "forward"), (k.answer(5, 2, 21), "ahead")] {
+        let text = String::from_utf8(explained(&answer).good()).unwrap();
+        let trace = text.lines().filter_map(|line| {
+            let (place, rest) = line.trim_start().split_once(' ')?;
+            Some(format!("{:>4} {rest}\n", place.parse::<usize>().ok()?.checked_sub(proof)?))
+        });
+        assert_eq!(trace.collect::<String>(), block(name));
+    }
 }
 
 #[test]
 fn answers_that_end_early_are_read() {
     let k = Logged::k();
-    for (question, strings) in [((0, 3, 35), "R"), ((1, 2, 19), "RPG"), ((0, 2, 35), "RPGNL")] {
+    for (question, strings) in [
+        ((0, 3, 35), "R"),
+        ((1, 2, 19), "RPG"),
+        ((0, 2, 35), "RPGNL"),
+        ((5, 3, 35), "R"),
+        ((4, 2, 31), "RPG"),
+        ((3, 2, 21), "RPGNL"),
+    ] {
         let text = String::from_utf8(explained(&k.answer(question.0, question.1, question.2)).good()).unwrap();
         let meanings = text.lines().filter_map(|line| line.split_whitespace().nth(2));
         let letters: String = meanings.filter(|meaning| meaning.len() == 1).collect();

@@ -5,11 +5,16 @@ mod common;
 use common::*;
 use reference::random::Random;
 
-/// Log K in a file, and what is said of an answer handed in for 2 at 35, backward.
-fn forge(name: &str, answer: &[u8]) -> Ran {
+/// Log K in a file, and what is said of an answer handed in for a question.
+fn forge_for(name: &str, question: [&str; 3], answer: &[u8]) -> Ran {
     let folder = Folder::new(&format!("forge_{name}"));
     let log = folder.file("log", &Logged::k().log);
-    run(&["mark", "--forge", &log, "backward", "2", "35", &folder.file("answer", answer)])
+    run(&[&["mark", "--forge", &log][..], &question, &[&folder.file("answer", answer)]].concat())
+}
+
+/// The same for 2 at 35, backward.
+fn forge(name: &str, answer: &[u8]) -> Ran {
+    forge_for(name, ["backward", "2", "35"], answer)
 }
 
 fn assert_not_passed(ran: &Ran, said: &str) {
@@ -33,6 +38,38 @@ fn the_true_answer_is_not_false() {
 fn the_true_answer_to_another_question_did_not_pass() {
     let said = "not passed: refused 16 at 393: letter not one due";
     assert_not_passed(&forge("other", &Logged::k().answer(2, 2, 35)), said);
+}
+
+/// In every direction the true answer is not false, and with its last byte altered it does not pass.
+#[test]
+fn all_six_directions_are_taken() {
+    for direction in 0..6 {
+        let word = direction.to_string();
+        let truth = Logged::k().answer(direction, 2, 25);
+        let said = |name: &str, answer: &[u8]| forge_for(&format!("{name}_{direction}"), [&word, "2", "25"], answer);
+        assert_not_passed(&said("six_true", &truth), "not false: this is the true answer");
+        let mut altered = truth;
+        *altered.last_mut().unwrap() ^= 1;
+        let ran = said("six_altered", &altered);
+        assert!(ran.status == 1 && ran.text().starts_with("not passed: refused "), "{direction}: {ran:?}");
+    }
+}
+
+/// The version on the other side of the time, and the end that the other relation has.
+#[test]
+fn the_other_relation_does_not_pass() {
+    let k = Logged::k();
+    for (asked, other, said) in [
+        ((4, 2, 21), (1, 2, 21), "refused 17 at 316: H of a proof string not the digest due"),
+        ((1, 2, 21), (4, 2, 21), "refused 17 at 316: H of a proof string not the digest due"),
+        ((3, 2, 31), (0, 2, 31), "refused 18 at 219: bytes after the end"),
+        ((0, 2, 31), (3, 2, 31), "refused 15 at 219: answer ends inside or before a string, trace header or record"),
+    ] {
+        let word = |asked: (u8, u32, u64)| [asked.0.to_string(), asked.1.to_string(), asked.2.to_string()];
+        let [direction, entity, time] = word(asked);
+        let ran = forge_for("relation", [&direction, &entity, &time], &k.answer(other.0, other.1, other.2));
+        assert_not_passed(&ran, &format!("not passed: {said}"));
+    }
 }
 
 #[test]

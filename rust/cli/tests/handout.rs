@@ -40,6 +40,32 @@ fn the_log_and_the_answers() {
     assert_eq!(table("forward"), forward[k.answer(0, 2, 20).len()..]);
 }
 
+/// The trace after the proof that is printed above it, and the answer that is the one printed above.
+#[test]
+fn looking_ahead() {
+    let k = Logged::k();
+    let answer = table("answer");
+    assert_eq!([&answer[..393], &table("ahead")].concat(), k.answer(5, 2, 21));
+    assert_eq!(k.answer(4, 2, 21), answer);
+}
+
+/// Of each question the answer's length, and what the check says.
+#[test]
+fn more_questions() {
+    let k = Logged::k();
+    let mut directions = Vec::new();
+    for line in block("questions") {
+        let mut words = line.split_whitespace();
+        let question: Vec<&str> = words.by_ref().take(3).collect();
+        let answer = run_on(&k.log, &[&["answer", "-"], &question[..]].concat()).good();
+        assert_eq!(words.next(), Some(answer.len().to_string().as_str()), "{line}");
+        let said = String::from_utf8(run_on(&answer, &[&["check", &k.hex()], &question[..], &["-"]].concat()).good()).unwrap();
+        assert!(said.ends_with(&format!(": {}\n", words.collect::<Vec<_>>().join(" "))), "{line}: {said}");
+        directions.push(question[0]);
+    }
+    assert!(["3", "4", "5"].iter().all(|direction| directions.contains(direction)), "{directions:?}");
+}
+
 #[test]
 fn the_digests() {
     let versions = Graph::new(&log_k()).versions;

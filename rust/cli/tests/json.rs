@@ -22,7 +22,11 @@ fn a_check_and_a_history() {
     assert_eq!(text(of("check", "backward", "2", "35", &answer)), found.clone() + "}\n");
     let versions = "{\"entity\":1,\"time\":\"10\"},{\"entity\":2,\"time\":\"20\"},{\"entity\":2,\"time\":\"30\",\"previous\":1,\"source\":0,\"kind\":7}";
     assert_eq!(text(of("show", "backward", "2", "35", &answer)), format!("{found},\"versions\":[{versions}]}}\n"));
-    assert_eq!(text(of("check", "only", "2", "19", &k.answer(0, 2, 19))), head("only", 2, 19) + ",\"verdict\":\"not yet\"}\n");
+    let not_yet = ",\"verdict\":\"not yet\",\"first\":\"20\"}\n";
+    assert_eq!(text(of("check", "only", "2", "19", &k.answer(0, 2, 19))), head("only", 2, 19) + not_yet);
+    let none_so_late = ",\"verdict\":\"none so late\",\"last\":\"30\"}\n";
+    assert_eq!(text(of("check", "forward-after", "2", "31", &k.answer(5, 2, 31))), head("forward-after", 2, 31) + none_so_late);
+    assert_eq!(text(of("check", "5", "3", "31", &k.answer(5, 3, 31))), head("forward-after", 3, 31) + ",\"verdict\":\"no entity\"}\n");
     let refused = of("check", "backward", "2", "35", &answer[1..]);
     assert_eq!((refused.status, refused.text()), (1, "{\"accepted\":false,\"number\":16,\"position\":0,\"cause\":\"letter not one due\"}\n"));
 }
@@ -41,8 +45,8 @@ fn a_mark() {
     let good = folder.host("good", "answer \"$@\"");
     let bad = folder.host("bad", "printf x");
     let ran = run(&["mark", &good, "--seed", "5", "--json"]);
-    assert!(text(ran).starts_with(&format!("{{\"seed\":\"5\",\"hosts\":[{{\"host\":\"{good}\",\"asked\":96,\"accepted\":96,\"no_answer\":0,")));
+    assert!(text(ran).starts_with(&format!("{{\"seed\":\"5\",\"hosts\":[{{\"host\":\"{good}\",\"asked\":192,\"accepted\":192,\"no_answer\":0,")));
     let ran = run(&["mark", &good, &bad, "--seed", "5", "--json"]);
     assert_eq!(ran.status, 1);
-    assert!(ran.text().contains("\"accepted\":0,\"no_answer\":0,") && ran.text().contains("\"refused\":{\"16\":96},\"said\":\"first not accepted: "), "{}", ran.text());
+    assert!(ran.text().contains("\"accepted\":0,\"no_answer\":0,") && ran.text().contains("\"refused\":{\"16\":192},\"said\":\"first not accepted: "), "{}", ran.text());
 }

@@ -10,6 +10,9 @@ const BACKWARD: &str = "found 2 at 30, 3 records\n\
     0: 1 at 10, birth\n\
     1: 2 at 20, birth\n\
     2: 2 at 30, temporal edge from 2 at 20, dependency edge of kind 7 from 1 at 10, found\n";
+const AHEAD: &str = "found 2 at 30, 2 records\n\
+    0: 2 at 30, found\n\
+    1: 1 at 40, dependency edge of kind 8 from 2 at 30\n";
 const FORWARD: &str = "found 2 at 20, 3 records\n\
     0: 2 at 20, found\n\
     1: 2 at 30, temporal edge from 2 at 20\n\
@@ -47,21 +50,28 @@ fn commit() {
     assert_eq!(folder.read("c"), k.commitment);
 }
 
-/// Every starred question: its words, the answer's length and the verdict.
-const ASKED: [(&str, u8, u32, u64, usize, &str); 7] = [
+/// Every starred question, and some that look ahead: their words, the answer's length and the verdict.
+const ASKED: [(&str, u8, u32, u64, usize, &str); 13] = [
     ("backward", 1, 2, 35, 446, "found 2 at 30, 3 records\n"),
     ("forward", 2, 1, 39, 451, "found 1 at 10, 3 records\n"),
     ("forward", 2, 2, 20, 446, "found 2 at 20, 3 records\n"),
     ("only", 0, 2, 35, 393, "found 2 at 30\n"),
-    ("backward", 1, 2, 19, 219, "not yet\n"),
+    ("backward", 1, 2, 19, 219, "not yet: the first version of 2 is at 20\n"),
     ("only", 0, 3, 99, 65, "no entity\n"),
     ("forward", 2, 0, 0, 65, "no entity\n"),
+    ("backward-after", 4, 2, 21, 446, "found 2 at 30, 3 records\n"),
+    ("forward-after", 5, 2, 20, 446, "found 2 at 20, 3 records\n"),
+    ("forward-after", 5, 1, 11, 411, "found 1 at 40, 1 record\n"),
+    ("only-after", 3, 1, 0, 393, "found 1 at 10\n"),
+    ("backward-after", 4, 2, 31, 219, "none so late: the last version of 2 is at 30\n"),
+    ("only-after", 3, 3, 0, 65, "no entity\n"),
 ];
 
 /// What `check` says of a true answer.
 fn accepted(direction: &str, entity: u32, time: u64, verdict: &str) -> String {
-    let direction = if direction == "only" { "version only" } else { direction };
-    format!("accepted: {entity} at {time}, {direction}: {verdict}")
+    let (way, relation) = direction.strip_suffix("-after").map_or((direction, "at"), |way| (way, "at or after"));
+    let part = if way == "only" { "version only" } else { way };
+    format!("accepted: {entity} {relation} {time}, {part}: {verdict}")
 }
 
 /// `ask` says what `commit`, `check` and `show` do.
@@ -72,8 +82,8 @@ fn ask() {
         let told = run_on(&k.log, &["ask", "-", name, &entity.to_string(), &time.to_string()]).good();
         let told = String::from_utf8(told).unwrap();
         let rest = told.strip_prefix(&format!("commitment {}\n{}", k.hex(), accepted(name, entity, time, verdict))).expect("commitment and verdict");
-        let versions = if verdict.contains("3 records") { 3 } else { 0 };
-        assert_eq!(rest.lines().count(), versions, "{told}");
+        let versions = verdict.split_once(", ").and_then(|(_, rest)| rest.split(' ').next()?.parse().ok());
+        assert_eq!(rest.lines().count(), versions.unwrap_or(0), "{told}");
     }
     let told = String::from_utf8(run_on(&k.log, &["ask", "-", "backward", "2", "35"]).good()).unwrap();
     assert!(told.ends_with(BACKWARD.split_once('\n').unwrap().1), "{told}");
@@ -125,7 +135,10 @@ fn show() {
     assert_eq!(show("backward", "2", "35", &k.answer(1, 2, 35)), BACKWARD.as_bytes());
     assert_eq!(show("forward", "2", "20", &k.answer(2, 2, 20)), FORWARD.as_bytes());
     assert_eq!(show("only", "2", "20", &k.answer(0, 2, 20)), b"found 2 at 20\n");
-    assert_eq!(show("backward", "2", "19", &k.answer(1, 2, 19)), b"not yet\n");
+    assert_eq!(show("backward-after", "2", "21", &k.answer(4, 2, 21)), BACKWARD.as_bytes());
+    assert_eq!(show("forward-after", "2", "21", &k.answer(5, 2, 21)), AHEAD.as_bytes());
+    assert_eq!(show("backward", "2", "19", &k.answer(1, 2, 19)), b"not yet: the first version of 2 is at 20\n");
+    assert_eq!(show("forward-after", "2", "31", &k.answer(5, 2, 31)), b"none so late: the last version of 2 is at 30\n");
 }
 
 #[test]
@@ -135,7 +148,8 @@ fn demo() {
     let indented = |text: &str| text.lines().map(|line| format!("    {line}\n")).collect::<String>();
     let refused = "refused 24 at 424: its path digest differs from L\n";
     let mut rest = told.as_str();
-    for text in [TEXT, LISTING, &k.hex(), BACKWARD, "found 1 at 10, 3 records\n", refused] {
+    let late = "none so late: the last version of 2 is at 30\n";
+    for text in [TEXT, LISTING, &k.hex(), BACKWARD, "found 1 at 10, 3 records\n", AHEAD, late, refused] {
         let text = indented(text);
         let place = rest.find(&text).unwrap_or_else(|| panic!("{text} is missing in {rest}"));
         rest = &rest[place + text.len()..];

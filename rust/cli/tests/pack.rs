@@ -84,6 +84,15 @@ fn its_files_are_those_of_the_repository() {
     }
 }
 
+/// The requests with a note, as document 02 names them and in its order.
+fn landed() -> Vec<String> {
+    let notes = fs::read_dir(format!("{ROOT}/docs/changes")).unwrap().map(|note| note.unwrap().file_name().into_string().unwrap());
+    let mut numbers: Vec<u32> = notes.filter_map(|note| note.strip_prefix('A')?.strip_suffix(".md")?.parse().ok()).collect();
+    numbers.sort_unstable();
+    assert!(numbers.contains(&3) && numbers.contains(&10), "{numbers:?}");
+    numbers.into_iter().map(|number| format!("**A{number}")).collect()
+}
+
 #[test]
 fn of_document_02_it_has_the_requests_that_hold() {
     let tree = tree("pack_requests");
@@ -92,7 +101,10 @@ fn of_document_02_it_has_the_requests_that_hold() {
     let packed = String::from_utf8(tree.read("out/bozhtagul-practical/docs/02-change-requests.md")).unwrap();
     let requests: Vec<&str> = packed.split("\n\n").skip(2).map(str::trim_end).collect();
     let names: Vec<&str> = requests.iter().map(|request| request.split('.').next().unwrap()).collect();
-    assert_eq!(names, ["**A3", "**A10"]);
+    assert_eq!(names, landed());
+    let handout = String::from_utf8(tree.read("practical/HANDOUT.md")).unwrap();
+    let words: Vec<&str> = handout.split(|letter: char| !letter.is_alphanumeric()).collect();
+    assert!(names.iter().all(|name| words.contains(&&name[2..])), "the handout says of each whether a host notices it: {names:?}");
     assert!(requests.iter().all(|request| all.split("\n\n").any(|paragraph| paragraph.trim_end() == *request)));
 }
 

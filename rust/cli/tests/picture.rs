@@ -115,6 +115,16 @@ fn three_records() {
 }
 
 #[test]
+fn looking_ahead() {
+    let backward = drawn(&log_k(), 4, 2, 21, 2, 3);
+    assert_eq!(count(&backward, ">2 at 30, kind 7, found</text>"), 1);
+    assert_eq!(count(&backward, ">2 at or after 21, backward: found 2 at 30, 3 records</text>"), 1);
+    let forward = drawn(&log_k(), 5, 2, 21, 2, 2);
+    assert_eq!(count(&forward, ">2 at 30, found</text>"), 1);
+    assert_eq!(count(&forward, ">2 at or after 21, forward: found 2 at 30, 2 records</text>"), 1);
+}
+
+#[test]
 fn three_records_with_the_greatest_numbers() {
     let (entity, time) = (u32::MAX, u64::MAX);
     drawn(&[birth(entity - 1, 0), birth(entity, time - 1), flow(entity - 1, entity, 255, time)], 1, entity, time, 2, 3);
@@ -152,8 +162,15 @@ fn a_file_beside_the_text() {
 #[test]
 fn nothing_found_is_a_title_alone() {
     let log = Logged::new(&births(2));
-    let picture = run_on(&log.answer(1, 7, 7), &["show", &log.hex(), "1", "7", "7", "-", "--svg", "-"]).good();
-    let picture = String::from_utf8(picture).unwrap();
-    assert_eq!(boxes(&picture).len(), 1);
-    assert_eq!(count(&picture, ">7 at 7, backward: no entity</text>"), 1);
+    for (direction, entity, time, title) in [
+        (1, 7, 7, "7 at 7, backward: no entity"),
+        (2, 1, 0, "1 at 0, forward: not yet: the first version of 1 is at 1"),
+        (5, 0, 1, "0 at or after 1, forward: none so late: the last version of 0 is at 0"),
+    ] {
+        let (d, e, t) = (direction.to_string(), entity.to_string(), time.to_string());
+        let picture = run_on(&log.answer(direction, entity, time), &["show", &log.hex(), &d, &e, &t, "-", "--svg", "-"]).good();
+        let picture = String::from_utf8(picture).unwrap();
+        assert_eq!(boxes(&picture).len(), 1);
+        assert_eq!(count(&picture, &format!(">{title}</text>")), 1, "{picture}");
+    }
 }

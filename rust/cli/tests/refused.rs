@@ -73,6 +73,7 @@ fn another_question_or_commitment_is_refused() {
     );
     assert_refused(&run_on(&answer, &["check", &k.hex(), "forward", "2", "35", "-"]), "refused 16 at 393: letter not one due");
     assert_refused(&run_on(&answer, &["check", &k.hex(), "only", "2", "35", "-"]), "refused 18 at 393: bytes after the end");
+    assert_refused(&run_on(&answer, &["check", &k.hex(), "backward-after", "2", "35", "-"]), "refused 18 at 219: bytes after the end");
 }
 
 #[test]
@@ -171,7 +172,8 @@ fn wrong_words_are_errors_of_use() {
         (&["commit"], "usage: bozhtagul commit LOG"),
         (&["commit", "--svg", "a", "b"], "commit has no option '--svg'"),
         (&["answer", "-", "sideways", "1", "1"], "DIRECTION 'sideways'"),
-        (&["answer", "-", "3", "1", "1"], "DIRECTION '3'"),
+        (&["answer", "-", "6", "1", "1"], "DIRECTION '6'"),
+        (&["answer", "-", "after", "1", "1"], "DIRECTION 'after'"),
         (&["answer", "-", "only", "4294967296", "1"], "ENTITY '4294967296'"),
         (&["answer", "-", "only", "1", "x"], "TIME 'x'"),
         (&["check", "-", "only", "1", "1", "-"], "standard input can be read only once"),

@@ -3,15 +3,19 @@
 use std::fmt;
 
 use calls::{Fields, Name, NAMES};
+use reference::DIRECTIONS;
 
 use crate::call::Call;
+
+/// The verdicts in words, by rising number from 1.
+const VERDICTS: [&str; 4] = ["no entity", "not yet", "found", "none so late"];
 
 /// Rows are counted by call, 0 for a call that is not turned away; verdicts by direction, 0 for none.
 #[derive(Clone, Debug, Default)]
 pub struct Tally {
     pub cases: u64,
     rows: [[u64; 25]; NAMES.len()],
-    verdicts: [[u64; 4]; 3],
+    verdicts: [[u64; VERDICTS.len() + 1]; DIRECTIONS as usize],
     /// Calls of `records` that gave some.
     with_records: u64,
 }
@@ -40,7 +44,7 @@ impl Tally {
         (1..25).filter(|&row| self.rows.iter().any(|rows| rows[row] > 0)).collect()
     }
 
-    /// How often the check gave a verdict (1 no entity, 2 not yet, 3 found) in a direction.
+    /// How often the check gave a verdict, by its number, in a direction.
     pub fn verdicts(&self, direction: usize, verdict: usize) -> u64 {
         self.verdicts[direction][verdict]
     }
@@ -50,7 +54,7 @@ impl Tally {
     }
 }
 
-/// A line a call: how often it was made, and how often it met each row.
+/// A line a call: how often it was made, and how often it met each row. Then a line a direction: how often the check gave each verdict.
 impl fmt::Display for Tally {
     fn fmt(&self, text: &mut fmt::Formatter) -> fmt::Result {
         for name in NAMES {
@@ -60,8 +64,10 @@ impl fmt::Display for Tally {
             }
             writeln!(text)?;
         }
-        let sum = |verdict: usize| self.verdicts.iter().map(|verdicts| verdicts[verdict]).sum::<u64>();
-        write!(text, "verdicts: {} no entity, {} not yet, {} found; ", sum(1), sum(2), sum(3))?;
+        for (direction, given) in self.verdicts.iter().enumerate() {
+            let given: Vec<String> = VERDICTS.iter().zip(&given[1..]).map(|(verdict, times)| format!("{times} {verdict}")).collect();
+            writeln!(text, "direction {direction}: {}", given.join(", "))?;
+        }
         write!(text, "{} with records", self.with_records)
     }
 }

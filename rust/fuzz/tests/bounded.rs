@@ -3,7 +3,7 @@
 use calls::{proved, Fields, Memory, Name, NAMES};
 use fuzz::case::Case;
 use fuzz::tally::Tally;
-use reference::Question;
+use reference::{Question, DIRECTIONS, NONE_SO_LATE, NOT_YET};
 
 const SEED: u64 = 1;
 const CASES: u64 = 24_000;
@@ -38,9 +38,12 @@ fn no_case_differs_and_all_is_reached() {
         assert_eq!(tally.rows_of(name), rows(name), "{name:?}");
     }
     assert_eq!(tally.rows(), (1..=24).filter(|row| *row != 10).collect::<Vec<_>>());
-    for direction in 0..3 {
-        for verdict in 1..=3 {
-            assert!(tally.verdicts(direction, verdict) > 20, "direction {direction}, verdict {verdict}\n{tally}");
+    // no entity, not yet and found in directions 0 to 2; no entity, found and none so late in directions 3 to 5
+    for (direction, verdicts) in [[1, 2, 3]; 3].into_iter().chain([[1, 3, 4]; 3]).enumerate() {
+        for verdict in 1..=4 {
+            let times = tally.verdicts(direction, verdict);
+            let enough = if verdicts.contains(&verdict) { times > 20 } else { times == 0 };
+            assert!(enough, "direction {direction}, verdict {verdict}\n{tally}");
         }
     }
     assert!(tally.with_records() > 500, "{tally}");
@@ -81,11 +84,33 @@ fn asks_for_another_time(name: Name, question: &Question, memory: Memory) -> Fie
     proved(name, &Question { time: question.time | 1, ..*question }, memory)
 }
 
+/// Takes at or after for at or before.
+fn looks_back_only(name: Name, question: &Question, memory: Memory) -> Fields {
+    let direction = if question.direction < DIRECTIONS { question.direction % 3 } else { question.direction };
+    proved(name, &Question { direction, ..*question }, memory)
+}
+
+/// Keeps the time of a stop with that number to itself.
+fn without_time(stop: u64, name: Name, question: &Question, memory: Memory) -> Fields {
+    let mut fields = proved(name, question, memory);
+    if fields.get("verdict") == stop {
+        fields.set("time", 0);
+    }
+    fields
+}
+
 /// Wrong libraries, each nearly right: the same cases tell them from the proved one.
 #[test]
 fn wrong_libraries_are_told_apart() {
-    let wrong: [fn(Name, &Question, Memory) -> Fields; 4] =
-        [keeps_a_byte, writes_though_refused, takes_22_for_24, asks_for_another_time];
+    let wrong: [fn(Name, &Question, Memory) -> Fields; 7] = [
+        keeps_a_byte,
+        writes_though_refused,
+        takes_22_for_24,
+        asks_for_another_time,
+        looks_back_only,
+        |name, question, memory| without_time(NOT_YET, name, question, memory),
+        |name, question, memory| without_time(NONE_SO_LATE, name, question, memory),
+    ];
     for (place, library) in wrong.into_iter().enumerate() {
         let difference = run(SEED, CASES, library).expect_err(&format!("wrong library {place} passes"));
         assert!(difference.contains("fuzz/run --seed 1 --case "), "{difference}");

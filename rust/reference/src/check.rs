@@ -6,18 +6,11 @@ use crate::fields::{digest_at, u32_at, u64_at};
 use crate::graph::{incoming_digests_by, outgoing_digests_by, Dependency, Name, Version};
 use crate::hash::{Hash, H};
 use crate::log::MOST_RECORDS;
-use crate::question::{Question, BACKWARD, FORWARD};
+use crate::question::{Asked, Question, Verdict, Way};
 use crate::refusal::{enough_work, refuse, Refusal};
 use crate::sha256::Digest;
 use crate::trace::{found_place, record_width, trace_letter, HEADER};
 use crate::tree::{Subtree, GROUP, LEAF, NODE, ROOT};
-
-#[derive(Clone, Copy, Debug, PartialEq, Eq)]
-pub enum Verdict {
-    NoEntity,
-    NotYet,
-    Found { time: u64, count: u64 },
-}
 
 /// What an accepted answer gives.
 #[derive(Clone, Debug, PartialEq, Eq)]
@@ -29,8 +22,7 @@ pub struct Accepted {
 
 /// Where the proof ends.
 enum End {
-    NoEntity,
-    NotYet,
+    Stopped(Verdict),
     Found(Leaf),
 }
 
@@ -53,20 +45,17 @@ pub fn check_by(
     answer: &[u8],
     work: usize,
 ) -> Result<Accepted, Refusal> {
-    if question.direction > FORWARD {
+    let Some(asked) = question.asked() else {
         return refuse(11, 0);
-    }
+    };
     let Ok(commitment) = <&Digest>::try_from(commitment) else {
         return refuse(14, 0);
     };
     let mut cursor = Cursor { answer, place: 0 };
-    let verdict = match proof(hash, question, commitment, &mut cursor)? {
-        End::NoEntity => Verdict::NoEntity,
-        End::NotYet => Verdict::NotYet,
-        End::Found(leaf) if question.direction == BACKWARD || question.direction == FORWARD => {
-            return trace(hash, question.direction, &leaf, &mut cursor, work);
-        }
-        End::Found(leaf) => Verdict::Found { time: leaf.name.time, count: 0 },
+    let verdict = match (proof(hash, &asked, commitment, &mut cursor)?, asked.way) {
+        (End::Stopped(verdict), _) => verdict,
+        (End::Found(leaf), None) => Verdict::Found { time: leaf.name.time, count: 0 },
+        (End::Found(leaf), Some(way)) => return trace(hash, way, &leaf, &mut cursor, work),
     };
     cursor.end()?;
     Ok(Accepted { verdict, records: None })
@@ -116,15 +105,12 @@ impl<'a> Cursor<'a> {
 }
 
 /// The opened strings, top down.
-fn proof(hash: &mut impl Hash, question: &Question, commitment: &Digest, cursor: &mut Cursor) -> Result<End, Refusal> {
+fn proof(hash: &mut impl Hash, asked: &Asked, commitment: &Digest, cursor: &mut Cursor) -> Result<End, Refusal> {
     let root = cursor.open(hash, b'R', ROOT, commitment)?;
-    let Some(tree) = entity_walk(hash, u64::from(question.entity), Subtree::at(root, 17), cursor)? else {
-        return Ok(End::NoEntity);
-    };
-    let Some(leaf) = time_walk(hash, question.time, tree, cursor)? else {
-        return Ok(End::NotYet);
-    };
-    Ok(End::Found(leaf))
+    match entity_walk(hash, u64::from(asked.entity), Subtree::at(root, 17), cursor)? {
+        None => Ok(End::Stopped(Verdict::NoEntity)),
+        Some(tree) => time_walk(hash, asked, tree, cursor),
+    }
 }
 
 /// The walk in the tree of entities; gives the entity's tree, or none: no entity.
@@ -143,15 +129,15 @@ fn entity_walk(hash: &mut impl Hash, s: u64, mut known: Subtree, cursor: &mut Cu
     }
 }
 
-/// The walk in the entity's tree; gives the opened L, or none: not yet.
-fn time_walk(hash: &mut impl Hash, t: u64, mut known: Subtree, cursor: &mut Cursor) -> Result<Option<Leaf>, Refusal> {
+/// The walk in the entity's tree, to a stop or to the opened L.
+fn time_walk(hash: &mut impl Hash, asked: &Asked, mut known: Subtree, cursor: &mut Cursor) -> Result<End, Refusal> {
     loop {
-        if t < known.least {
-            return Ok(None);
+        if let Some(verdict) = asked.stop(known.least, known.greatest) {
+            return Ok(End::Stopped(verdict));
         }
         if known.least == known.greatest {
             let string = cursor.open(hash, b'L', LEAF, &known.digest)?;
-            return Ok(Some(Leaf {
+            return Ok(End::Found(Leaf {
                 name: Name { entity: u32_at(string, 1), time: u64_at(string, 5) },
                 incoming: digest_at(string, 13),
                 outgoing: digest_at(string, 45),
@@ -159,7 +145,7 @@ fn time_walk(hash: &mut impl Hash, t: u64, mut known: Subtree, cursor: &mut Curs
         }
         let string = cursor.open(hash, b'N', NODE, &known.digest)?;
         let (left, right) = (Subtree::at(string, 1), Subtree::at(string, 49));
-        known = if t >= right.least { right } else { left };
+        known = if asked.goes_left(&left, &right) { left } else { right };
     }
 }
 
@@ -170,31 +156,30 @@ struct TraceRecord {
 }
 
 /// The trace: header, each record, then 18, 22, 23, 24.
-fn trace(hash: &mut impl Hash, direction: u8, leaf: &Leaf, cursor: &mut Cursor, work: usize) -> Result<Accepted, Refusal> {
-    let count = header(direction, cursor, work)?;
+fn trace(hash: &mut impl Hash, way: Way, leaf: &Leaf, cursor: &mut Cursor, work: usize) -> Result<Accepted, Refusal> {
+    let count = header(way, cursor, work)?;
     let first = cursor.place;
     let mut starts = Vec::new();
     let mut versions: Vec<Version> = Vec::new();
     for own in 0..count {
         let previous_time = versions.last().map(|version| version.name.time);
-        let record = record(direction, own, previous_time, cursor)?;
+        let record = record(way, own, previous_time, cursor)?;
         starts.push(record.start);
         versions.push(record.version);
     }
     cursor.end()?;
-    if direction == BACKWARD {
+    if way == Way::Backward {
         if let Some(idle) = idle(&versions) {
             return refuse(22, starts[idle]);
         }
     }
-    let found = found_place(direction, count);
+    let found = found_place(way, count);
     if versions[found].name != leaf.name {
         return refuse(23, starts[found]);
     }
-    let same = if direction == BACKWARD {
-        incoming_digests_by(hash, &versions)[found] == leaf.incoming
-    } else {
-        outgoing_digests_by(hash, &versions)[found] == leaf.outgoing
+    let same = match way {
+        Way::Backward => incoming_digests_by(hash, &versions)[found] == leaf.incoming,
+        Way::Forward => outgoing_digests_by(hash, &versions)[found] == leaf.outgoing,
     };
     if !same {
         return refuse(24, starts[found]);
@@ -204,9 +189,9 @@ fn trace(hash: &mut impl Hash, direction: u8, leaf: &Leaf, cursor: &mut Cursor, 
 }
 
 /// The trace header by 15, 16, 15, 19, 12; gives the count.
-fn header(direction: u8, cursor: &mut Cursor, work: usize) -> Result<usize, Refusal> {
+fn header(way: Way, cursor: &mut Cursor, work: usize) -> Result<usize, Refusal> {
     let start = cursor.place;
-    let header = cursor.piece(|found| (found == trace_letter(direction)).then_some(HEADER))?;
+    let header = cursor.piece(|found| (found == trace_letter(way)).then_some(HEADER))?;
     let count = u32_at(header, 1) as usize;
     if count == 0 || count > MOST_RECORDS {
         return refuse(19, start);
@@ -216,14 +201,9 @@ fn header(direction: u8, cursor: &mut Cursor, work: usize) -> Result<usize, Refu
 }
 
 /// A record by 15, 16, 15, 20, 21. `own` is the record's position.
-fn record(
-    direction: u8,
-    own: usize,
-    previous_time: Option<u64>,
-    cursor: &mut Cursor,
-) -> Result<TraceRecord, Refusal> {
+fn record(way: Way, own: usize, previous_time: Option<u64>, cursor: &mut Cursor) -> Result<TraceRecord, Refusal> {
     let start = cursor.place;
-    let bytes = cursor.piece(|letter| record_width(letter).filter(|_| is_due(direction, own, letter)))?;
+    let bytes = cursor.piece(|letter| record_width(letter).filter(|_| is_due(way, own, letter)))?;
     let version = decode_record(bytes);
     let source = version.dependency.map(|edge| edge.source);
     if version.temporal.into_iter().chain(source).any(|position| position >= own) {
@@ -236,12 +216,12 @@ fn record(
 }
 
 /// Whether a record's letter is due at its position.
-fn is_due(direction: u8, own: usize, letter: u8) -> bool {
-    match letter {
-        b'E' => direction == BACKWARD,
-        b'V' => direction == BACKWARD || own > 0,
-        b'S' => direction == FORWARD && own == 0,
-        _ => direction == FORWARD && own > 0,
+fn is_due(way: Way, own: usize, letter: u8) -> bool {
+    match (letter, way) {
+        (b'E' | b'V', Way::Backward) => true,
+        (b'S', Way::Forward) => own == 0,
+        (b'T' | b'D' | b'V', Way::Forward) => own > 0,
+        _ => false,
     }
 }
 

@@ -2,7 +2,7 @@
 
 use crate::check::decode_record;
 use crate::graph::{incoming_digests, outgoing_digests, Name, Version};
-use crate::question::Question;
+use crate::question::{Question, Way};
 use crate::sha256::{sha256, Digest};
 use crate::trace::{found_place, record_letter, record_width, trace_letter, HEADER};
 use crate::tree::{leaf_string, Subtree, GROUP, LEAF, NODE, ROOT};
@@ -49,19 +49,19 @@ pub fn trace_with_count(letter: u8, count: u32, records: &[Vec<u8>]) -> Vec<u8> 
 }
 
 /// The records that show versions and their edges, whatever the positions.
-pub fn records_of(direction: u8, versions: &[Version]) -> Vec<Vec<u8>> {
-    versions.iter().map(|version| record_of(direction, version)).collect()
+pub fn records_of(way: Way, versions: &[Version]) -> Vec<Vec<u8>> {
+    versions.iter().map(|version| record_of(way, version)).collect()
 }
 
-fn record_of(direction: u8, version: &Version) -> Vec<u8> {
-    let letter = record_letter(direction, version.temporal.is_some(), version.dependency.is_some());
+fn record_of(way: Way, version: &Version) -> Vec<u8> {
+    let letter = record_letter(way, version.temporal.is_some(), version.dependency.is_some());
     let source = version.dependency.map(|edge| edge.source);
     let positions: Vec<u32> = version.temporal.into_iter().chain(source).map(|position| position as u32).collect();
     record(letter, version.name.entity, version.name.time, version.dependency.map(|edge| edge.kind), &positions)
 }
 
-pub fn trace_of(direction: u8, versions: &[Version]) -> Vec<u8> {
-    trace(trace_letter(direction), &records_of(direction, versions))
+pub fn trace_of(way: Way, versions: &[Version]) -> Vec<u8> {
+    trace(trace_letter(way), &records_of(way, versions))
 }
 
 /// All positions are below the record's own.
@@ -108,16 +108,16 @@ pub fn proof(strings: &[Vec<u8>]) -> Fitting {
     Fitting { commitment: sha256(&strings[0]), answer: strings.concat() }
 }
 
-/// R, G and a given L for any entity and time from those asked on.
+/// R, G and a given L, whose keys are what is asked.
 pub fn proof_of_leaf(question: &Question, l: Vec<u8>) -> Fitting {
     let g = group(&known(question.time, question.time, &l));
     let entity = u64::from(question.entity);
     proof(&[root(&known(entity, entity, &g)), g, l])
 }
 
-/// R, G and an L with the name and the path digests that a trace of any versions shows, if their positions fit.
+/// R, G and an L with the name and the path digests that a trace of any versions shows, if their positions fit. A trace is asked for.
 pub fn proof_of_found(question: &Question, versions: &[Version]) -> Fitting {
-    let found = found_place(question.direction, versions.len());
+    let found = found_place(way_of(question), versions.len());
     let Name { entity, time } = versions[found].name;
     let (incoming, outgoing) = (incoming_digests(versions)[found], outgoing_digests(versions)[found]);
     proof_of_leaf(question, leaf(entity, time, &incoming, &outgoing))
@@ -126,11 +126,15 @@ pub fn proof_of_found(question: &Question, versions: &[Version]) -> Fitting {
 /// The same, with the trace.
 pub fn proof_of_trace(question: &Question, versions: &[Version]) -> Fitting {
     let mut fitting = proof_of_found(question, versions);
-    fitting.answer.extend(trace_of(question.direction, versions));
+    fitting.answer.extend(trace_of(way_of(question), versions));
     fitting
 }
 
-/// A proof of `depth` P strings and as many N strings, whose last is the given L.
+fn way_of(question: &Question) -> Way {
+    question.way().expect("a question with a trace")
+}
+
+/// A proof for 1 at 5 of `depth` P strings and as many N strings, whose last is the given L. A question at or before a later time opens it too.
 pub fn long_proof(depth: usize, l: Vec<u8>) -> Vec<Vec<u8>> {
     let mut top = known(5, 5, &l);
     let mut strings = vec![l];

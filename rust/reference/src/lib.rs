@@ -29,7 +29,7 @@ pub mod trace;
 pub mod tree;
 pub mod vectors;
 
-pub use question::{Question, BACKWARD, FORWARD, VERSION_ONLY};
+pub use question::{Asked, Question, Relation, Verdict, Way, DIRECTIONS};
 pub use refusal::{Refusal, WORK};
 use refusal::{enough_work, refuse};
 
@@ -53,8 +53,10 @@ pub const REFUSED: u64 = 0;
 pub const NO_ENTITY: u64 = 1;
 pub const NOT_YET: u64 = 2;
 pub const FOUND: u64 = 3;
+pub const NONE_SO_LATE: u64 = 4;
 
-/// The result of a check; `time` and `count` are 0 unless found.
+/// The result of a check. `time` is the found version's, the entity's first with not yet and its last with none so late, else 0; `count` is
+/// 0 unless found.
 #[derive(Clone, Copy, Debug, Default, PartialEq, Eq)]
 pub struct Checked {
     pub number: u64,
@@ -114,12 +116,12 @@ pub fn answer(
 }
 
 fn answer_result(question: &Question, log: &[u8], work: usize, out: &mut [u8]) -> Result<usize, Refusal> {
-    if question.direction > FORWARD {
+    let Some(asked) = question.asked() else {
         return refuse(11, 0);
-    }
+    };
     let records = log::read(log)?;
     enough_work(work, records.len())?;
-    write(&host::Host::new(&records).answer(question), out)
+    write(&host::Host::new(&records).answer_to(&mut hash::H, &asked), out)
 }
 
 /// The check of an answer. 11, 14, the proof, the trace.
@@ -135,14 +137,18 @@ pub fn check(
     work.fill(0);
     match check::check(&Question { direction, entity, time }, commitment, answer, length) {
         Err(Refusal { number, position }) => Checked { number, position, ..Checked::default() },
-        Ok(accepted) => match accepted.verdict {
-            check::Verdict::NoEntity => Checked { verdict: NO_ENTITY, ..Checked::default() },
-            check::Verdict::NotYet => Checked { verdict: NOT_YET, ..Checked::default() },
-            check::Verdict::Found { time, count } => {
-                Checked { verdict: FOUND, time, count, ..Checked::default() }
-            }
-        },
+        Ok(accepted) => checked(accepted.verdict),
     }
+}
+
+fn checked(verdict: Verdict) -> Checked {
+    let (verdict, time, count) = match verdict {
+        Verdict::NoEntity => (NO_ENTITY, 0, 0),
+        Verdict::NotYet { first } => (NOT_YET, first, 0),
+        Verdict::NoneSoLate { last } => (NONE_SO_LATE, last, 0),
+        Verdict::Found { time, count } => (FOUND, time, count),
+    };
+    Checked { verdict, time, count, ..Checked::default() }
 }
 
 /// The checked records as a part of the answer, without the trace header;

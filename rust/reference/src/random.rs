@@ -5,7 +5,7 @@ use crate::forge::{fits, records_of, trace_with_count};
 use crate::graph::{incoming_digests, outgoing_digests, Dependency, Name, Version};
 use crate::hash::H;
 use crate::log::{births, write, Record, MOST_RECORDS};
-use crate::question::{Question, BACKWARD, FORWARD};
+use crate::question::{Asked, Question, Relation, Way, DIRECTIONS};
 use crate::sha256::{sha256, Digest};
 use crate::trace::{found_place, trace_letter};
 use crate::tree::{leaf_string, Subtree, NODE};
@@ -252,7 +252,7 @@ pub fn overlong_log(random: &mut Random) -> Fault {
 /// A question about a log, known unless once in 16; entities and times lie at or near
 /// those of the log, or anywhere.
 pub fn question(random: &mut Random, records: &[Record]) -> Question {
-    let direction = if random.once_in(16) { random.byte() } else { random.below(3) as u8 };
+    let direction = if random.once_in(16) { random.byte() } else { known_direction(random) };
     let record = records[random.index(records.len())];
     let entity = match record {
         Record::Birth { entity, .. } => entity,
@@ -261,6 +261,10 @@ pub fn question(random: &mut Random, records: &[Record]) -> Question {
     };
     let time = records[random.index(records.len())].time();
     Question { direction, entity: near(random, u64::from(entity)) as u32, time: near(random, time) }
+}
+
+pub fn known_direction(random: &mut Random) -> u8 {
+    random.below(DIRECTIONS.into()) as u8
 }
 
 /// A number, mostly itself, else next to it, the least, the greatest or any.
@@ -329,34 +333,35 @@ struct Opening {
 }
 
 pub fn forged(random: &mut Random) -> Forged {
-    let direction = random.below(3) as u8;
+    let direction = known_direction(random);
     let question = Question { direction, entity: random.below(8) as u32, time: random.below(8) };
+    let asked = question.asked().expect("a known direction");
     let depth = random.below(4);
-    let top = forged_tree(random, b'P', depth, &question);
+    let top = forged_tree(random, b'P', depth, &asked);
     let mut root = b"R".to_vec();
     root.extend(random.bytes(16));
     root.extend_from_slice(&top.known.bytes());
     let commitment = sha256(&root);
     let mut answer = root;
-    open_forged(&question, &top, &mut answer);
+    open_forged(&asked, &top, &mut answer);
     Forged { question, commitment, answer }
 }
 
 /// A tree of P or N strings over G or L strings. A leaf has equal keys, and
 /// any other subtree unequal ones, so that the letter due is the one there.
-fn forged_tree(random: &mut Random, letter: u8, depth: u64, question: &Question) -> Opening {
+fn forged_tree(random: &mut Random, letter: u8, depth: u64, asked: &Asked) -> Opening {
     if depth == 0 {
-        return if letter == b'P' { forged_group(random, question) } else { forged_leaf(random, question) };
+        return if letter == b'P' { forged_group(random, asked) } else { forged_leaf(random, asked) };
     }
     let (left_depth, right_depth) = (random.below(depth), random.below(depth));
-    let left = forged_tree(random, letter, left_depth, question);
-    let right = forged_tree(random, letter, right_depth, question);
+    let left = forged_tree(random, letter, left_depth, asked);
+    let right = forged_tree(random, letter, right_depth, asked);
     let mut string = Vec::with_capacity(NODE);
     string.push(letter);
     string.extend_from_slice(&left.known.bytes());
     string.extend_from_slice(&right.known.bytes());
-    let asked = if letter == b'P' { u64::from(question.entity) } else { question.time };
-    let (least, mut greatest) = forged_keys(random, asked);
+    let key = if letter == b'P' { u64::from(asked.entity) } else { asked.time };
+    let (least, mut greatest) = forged_keys(random, key);
     if least == greatest {
         greatest += 1;
     }
@@ -364,31 +369,33 @@ fn forged_tree(random: &mut Random, letter: u8, depth: u64, question: &Question)
     Opening { known, string, below: vec![left, right], trace: Vec::new() }
 }
 
-/// A least key, mostly at or below what is asked, and a greatest, mostly at or above.
-fn forged_keys(random: &mut Random, asked: u64) -> (u64, u64) {
-    match random.below(12) {
-        0 => ((1 << 32) + asked, (1 << 32) + random.below(8)),
+/// A least key, mostly at or below the one asked for, and a greatest, mostly at or above.
+fn forged_keys(random: &mut Random, key: u64) -> (u64, u64) {
+    match random.below(14) {
+        0 => ((1 << 32) + key, (1 << 32) + random.below(8)),
         1 => (random.below(8), random.below(8)),
-        2 => (u64::MAX - 1, asked),
-        _ => (random.below(asked + 1), asked + random.below(3)),
+        2 => (u64::MAX - 1, key),
+        3 => (key, 0),
+        4 => (random.below(key + 1), key / 2),
+        _ => (random.below(key + 1), key + random.below(3)),
     }
 }
 
-fn forged_group(random: &mut Random, question: &Question) -> Opening {
+fn forged_group(random: &mut Random, asked: &Asked) -> Opening {
     let depth = random.below(4);
-    let tree = forged_tree(random, b'N', depth, question);
+    let tree = forged_tree(random, b'N', depth, asked);
     let mut string = b"G".to_vec();
     string.extend(random.bytes(8));
     string.extend_from_slice(&tree.known.bytes());
-    let asked = u64::from(question.entity);
-    let key = if random.once_in(4) { forged_keys(random, asked).0 } else { asked };
+    let entity = u64::from(asked.entity);
+    let key = if random.once_in(4) { forged_keys(random, entity).0 } else { entity };
     Opening { known: Subtree::leaf(&mut H, key, &string), string, below: vec![tree], trace: Vec::new() }
 }
 
-fn forged_leaf(random: &mut Random, question: &Question) -> Opening {
-    let direction = question.direction;
-    let versions = forged_versions(random, direction);
-    let found = found_place(direction, versions.len());
+fn forged_leaf(random: &mut Random, asked: &Asked) -> Opening {
+    let way = asked.way.unwrap_or(Way::Forward);
+    let versions = forged_versions(random, way);
+    let found = found_place(way, versions.len());
     let mut name = versions[found].name;
     let (mut incoming, mut outgoing) = (random.digest(), random.digest());
     if fits(&versions) && !random.once_in(16) {
@@ -399,13 +406,17 @@ fn forged_leaf(random: &mut Random, question: &Question) -> Opening {
         name.entity ^= 1;
     }
     let string = leaf_string(name, &incoming, &outgoing).to_vec();
-    let trace = if direction == 0 { Vec::new() } else { forged_trace(random, direction, &versions) };
-    let key = forged_keys(random, question.time).0;
+    let trace = asked.way.map(|way| forged_trace(random, way, &versions)).unwrap_or_default();
+    let (least, greatest) = forged_keys(random, asked.time);
+    let key = match asked.relation {
+        Relation::AtOrBefore => least,
+        Relation::AtOrAfter => greatest,
+    };
     Opening { known: Subtree::leaf(&mut H, key, &string), string, below: Vec::new(), trace }
 }
 
 /// Versions with arbitrary edges, mostly from earlier ones and by rising time.
-fn forged_versions(random: &mut Random, direction: u8) -> Vec<Version> {
+fn forged_versions(random: &mut Random, way: Way) -> Vec<Version> {
     let count = 1 + random.index(6);
     let mut versions = Vec::new();
     let mut time = random.below(4);
@@ -416,11 +427,11 @@ fn forged_versions(random: &mut Random, direction: u8) -> Vec<Version> {
         let mut temporal = Some(forged_position(random, own));
         let kind = if random.once_in(2) { 0 } else { random.byte() };
         let mut dependency = Some(Dependency { kind, source: forged_position(random, own) });
-        match (direction, edges) {
-            (BACKWARD, 0) => (temporal, dependency) = (None, None),
+        match (way, edges) {
+            (Way::Backward, 0) => (temporal, dependency) = (None, None),
             _ if own == 0 => (temporal, dependency) = (None, None),
-            (FORWARD, 0) => dependency = None,
-            (FORWARD, 1) => temporal = None,
+            (Way::Forward, 0) => dependency = None,
+            (Way::Forward, 1) => temporal = None,
             _ => {}
         }
         versions.push(Version { name, temporal, dependency });
@@ -439,24 +450,24 @@ fn forged_position(random: &mut Random, own: usize) -> usize {
     }
 }
 
-fn forged_trace(random: &mut Random, direction: u8, versions: &[Version]) -> Vec<u8> {
+fn forged_trace(random: &mut Random, way: Way, versions: &[Version]) -> Vec<u8> {
     let count = match random.below(40) {
         0 => 0,
         1 => 65_536 + random.below(3) as u32,
         _ => versions.len() as u32,
     };
-    trace_with_count(trace_letter(direction), count, &records_of(direction, versions))
+    trace_with_count(trace_letter(way), count, &records_of(way, versions))
 }
 
 /// Writes the strings that the walk opens, and the trace.
-fn open_forged(question: &Question, opening: &Opening, answer: &mut Vec<u8>) {
+fn open_forged(asked: &Asked, opening: &Opening, answer: &mut Vec<u8>) {
     let mut opening = opening;
     let mut in_group = false;
     loop {
         let known = &opening.known;
-        let entity = u64::from(question.entity);
+        let entity = u64::from(asked.entity);
         let stop = if in_group {
-            question.time < known.least
+            asked.stop(known.least, known.greatest).is_some()
         } else {
             entity < known.least || entity > known.greatest
         };
@@ -466,7 +477,7 @@ fn open_forged(question: &Question, opening: &Opening, answer: &mut Vec<u8>) {
         answer.extend_from_slice(&opening.string);
         opening = match (opening.string[0], &opening.below[..]) {
             (b'P', [left, _]) if entity <= left.known.greatest => left,
-            (b'N', [left, right]) if question.time < right.known.least => left,
+            (b'N', [left, right]) if asked.goes_left(&left.known, &right.known) => left,
             (b'P' | b'N', [_, right]) => right,
             (b'G', [tree]) => {
                 in_group = true;

@@ -1,7 +1,7 @@
 //! Logs by hand, and every question about a log, for tests.
 
 use crate::log::{self, Record};
-use crate::question::Question;
+use crate::question::{Question, DIRECTIONS};
 
 pub fn birth(entity: u32, time: u64) -> Record {
     Record::Birth { entity, time }
@@ -44,7 +44,7 @@ pub fn questions(records: &[Record]) -> Vec<Question> {
     let mut questions = Vec::new();
     for &entity in &entities {
         for &time in &times {
-            questions.extend((0..3).map(|direction| Question { direction, entity: entity as u32, time }));
+            questions.extend((0..DIRECTIONS).map(|direction| Question { direction, entity: entity as u32, time }));
         }
     }
     questions

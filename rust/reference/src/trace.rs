@@ -1,32 +1,30 @@
 //! The letters and widths of a trace (section Questions and answers).
 
-use crate::question::BACKWARD;
+use crate::question::Way;
 
 /// Bytes of a trace header.
 pub const HEADER: usize = 5;
 
-/// The header's letter in a direction with a trace.
-pub fn trace_letter(direction: u8) -> u8 {
-    if direction == BACKWARD {
-        b'B'
-    } else {
-        b'F'
+/// The header's letter.
+pub fn trace_letter(way: Way) -> u8 {
+    match way {
+        Way::Backward => b'B',
+        Way::Forward => b'F',
     }
 }
 
 /// The place of the found version among that many records.
-pub fn found_place(direction: u8, records: usize) -> usize {
-    if direction == BACKWARD {
-        records - 1
-    } else {
-        0
+pub fn found_place(way: Way, records: usize) -> usize {
+    match way {
+        Way::Backward => records - 1,
+        Way::Forward => 0,
     }
 }
 
 /// A record's letter, by whether it shows a temporal and a dependency edge.
-pub fn record_letter(direction: u8, temporal: bool, dependency: bool) -> u8 {
+pub fn record_letter(way: Way, temporal: bool, dependency: bool) -> u8 {
     match (temporal, dependency) {
-        (false, false) if direction == BACKWARD => b'E',
+        (false, false) if way == Way::Backward => b'E',
         (false, false) => b'S',
         (true, false) => b'T',
         (false, true) => b'D',

@@ -38,6 +38,8 @@ fn busy_source() {
     let log = write(&one_source(MOST));
     round_trip(&log, ask(2, 0, 0), MOST as u64 - 1);
     round_trip(&log, ask(1, 1, u64::MAX), MOST as u64);
+    round_trip(&log, ask(4, 1, MOST as u64 - 1), MOST as u64);
+    round_trip(&log, ask(5, 0, 0), MOST as u64 - 1);
 }
 
 #[test]
@@ -45,6 +47,8 @@ fn alternating() {
     let log = write(&in_turn(MOST));
     round_trip(&log, ask(2, 0, 0), MOST as u64 - 1);
     round_trip(&log, ask(1, 1, u64::MAX), MOST as u64);
+    round_trip(&log, ask(4, 1, MOST as u64 - 1), MOST as u64);
+    round_trip(&log, ask(5, 0, 0), MOST as u64 - 1);
 }
 
 #[test]
@@ -63,8 +67,9 @@ fn random_large() {
     let log = write(&records);
     let first = reference::host::Host::new(&records);
     let Record::Birth { entity, .. } = records[0] else { unreachable!() };
-    for direction in 0..3 {
-        let q = ask(direction, entity, u64::MAX);
+    for direction in 0..6 {
+        let time = if direction < 3 { u64::MAX } else { 0 };
+        let q = ask(direction, entity, time);
         let (_, bytes) = answer_with(q, &log, 128 * MOST, 1_500_000);
         assert_eq!(bytes, first.answer(&q));
         assert_eq!(check_with(q, &first.commitment(), &bytes, 128 * MOST).verdict, 3);

@@ -36,30 +36,31 @@ fn letters(answer: &[u8]) -> String {
 
 fn found(q: Question, length: usize, path: &str, records: &[Vec<u8>], time: u64) {
     let answer = answer(q, &log_k());
+    // asked at its own time, a version is found by either relation and with the same strings
+    for direction in [q.direction % 3, q.direction % 3 + 3] {
+        assert_eq!(common::answer(ask(direction, q.entity, time), &log_k()), answer);
+    }
     assert_eq!(answer.len(), length);
-    let tail = if q.direction == 0 {
-        Vec::new()
-    } else {
-        trace(if q.direction == 1 { b'B' } else { b'F' }, records)
-    };
-    assert!(answer.ends_with(&tail));
     assert_eq!(letters(&answer), path);
+    if let Some(letter @ (b'B' | b'F')) = path.bytes().last() {
+        assert!(answer.ends_with(&trace(letter, records)));
+    }
     let commitment = from_hex(COMMITMENT);
     assert_eq!(check(q, &commitment, &answer), accepted(3, time, records.len() as u64));
     let part = common::records(q, &commitment, &answer);
     let bytes = &answer[part.start as usize..(part.start + part.length) as usize];
     assert_eq!(bytes, records.concat());
-    if q.direction != 0 {
+    if !records.is_empty() {
         assert_eq!(part.start as usize, answer.len() - records.concat().len());
     }
 }
 
-fn stopped(q: Question, log: &[u8], length: usize, path: &str, verdict: u64) {
+fn stopped(q: Question, log: &[u8], length: usize, path: &str, verdict: u64, time: u64) {
     let answer = answer(q, log);
     assert_eq!(answer.len(), length);
     assert_eq!(letters(&answer), path);
     let commitment = commit(log);
-    assert_eq!(check_with(q, &commitment, &answer, 0), accepted(verdict, 0, 0));
+    assert_eq!(check_with(q, &commitment, &answer, 0), accepted(verdict, time, 0));
     assert_eq!(common::records(q, &commitment, &answer), Part { start: 0, length: 0 });
 }
 
@@ -90,10 +91,69 @@ fn version_only() {
 #[test]
 fn not_yet_and_no_entity() {
     for direction in 0..3 {
-        stopped(ask(direction, 2, 19), &log_k(), 219, "RPG", 2);
-        stopped(ask(direction, 3, 35), &log_k(), 65, "R", 1);
-        stopped(ask(direction, 0, 35), &log_k(), 65, "R", 1);
-        stopped(ask(direction, 3, 35), &[birth(1, 10), birth(5, 20)].concat(), 162, "RP", 1);
+        stopped(ask(direction, 2, 19), &log_k(), 219, "RPG", 2, 20);
+        stopped(ask(direction, 2, 0), &log_k(), 219, "RPG", 2, 20);
+        stopped(ask(direction, 1, 9), &log_k(), 219, "RPG", 2, 10);
+    }
+    for direction in 0..6 {
+        for time in [0, 35, u64::MAX] {
+            stopped(ask(direction, 3, time), &log_k(), 65, "R", 1, 0);
+            stopped(ask(direction, 0, time), &log_k(), 65, "R", 1, 0);
+            stopped(ask(direction, 3, time), &[birth(1, 10), birth(5, 20)].concat(), 162, "RP", 1, 0);
+        }
+    }
+}
+
+#[test]
+fn none_so_late() {
+    for direction in 3..6 {
+        stopped(ask(direction, 2, 31), &log_k(), 219, "RPG", 4, 30);
+        stopped(ask(direction, 2, u64::MAX), &log_k(), 219, "RPG", 4, 30);
+        stopped(ask(direction, 1, 41), &log_k(), 219, "RPG", 4, 40);
+    }
+}
+
+#[test]
+fn looking_ahead() {
+    let [birth_1, birth_2] = [e(1, 10), e(2, 20)];
+    let history = [birth_1.clone(), birth_2.clone(), v(2, 30, 7, 1, 0)];
+    for time in 21..=30 {
+        found(ask(3, 2, time), 393, "RPGNL", &[], 30);
+        found(ask(4, 2, time), 446, "RPGNLB", &history, 30);
+        found(ask(5, 2, time), 429, "RPGNLF", &[s(2, 30), d(1, 40, 8, 0)], 30);
+    }
+    for time in 0..=20 {
+        found(ask(3, 2, time), 393, "RPGNL", &[], 20);
+        found(ask(4, 2, time), 411, "RPGNLB", &[birth_2.clone()], 20);
+        found(ask(5, 2, time), 446, "RPGNLF", &[s(2, 20), t(2, 30, 0), d(1, 40, 8, 1)], 20);
+    }
+    for time in 0..=10 {
+        found(ask(4, 1, time), 411, "RPGNLB", &[birth_1.clone()], 10);
+    }
+    for time in 11..=40 {
+        found(ask(5, 1, time), 411, "RPGNLF", &[s(1, 40)], 40);
+    }
+}
+
+/// The least and the greatest time that a question or a version can have.
+#[test]
+fn ends_of_time() {
+    let log = [birth(1, 0), birth(2, 5), flow(2, 1, 9, u64::MAX)].concat();
+    let commitment = commit(&log);
+    for (direction, entity, time, verdict) in [
+        (0, 1, 0, accepted(3, 0, 0)),
+        (3, 1, 0, accepted(3, 0, 0)),
+        (3, 1, 1, accepted(3, u64::MAX, 0)),
+        (0, 1, u64::MAX - 1, accepted(3, 0, 0)),
+        (0, 1, u64::MAX, accepted(3, u64::MAX, 0)),
+        (3, 1, u64::MAX, accepted(3, u64::MAX, 0)),
+        (0, 2, 0, accepted(2, 5, 0)),
+        (3, 2, 0, accepted(3, 5, 0)),
+        (0, 2, u64::MAX, accepted(3, 5, 0)),
+        (3, 2, u64::MAX, accepted(4, 5, 0)),
+    ] {
+        let q = ask(direction, entity, time);
+        assert_eq!(check(q, &commitment, &answer(q, &log)), verdict, "{q:?}");
     }
 }
 
@@ -128,7 +188,7 @@ fn work_area() {
     let three = [birth(1, 10), birth(2, 20), flow(1, 2, 7, 30)].concat();
     assert_eq!(commit_with(&three, 384, 32).0, Outcome { number: 0, position: 0 });
     assert_eq!(commit_with(&three, 383, 32).0, Outcome { number: 12, position: 0 });
-    for direction in 0..3 {
+    for direction in 0..6 {
         for entity in [1, 9] {
             let q = ask(direction, entity, 35);
             assert_eq!(answer_with(q, &three, 384, 9000).0.number, 0);

@@ -7,13 +7,13 @@ use common::*;
 use reference::log::write;
 use reference::random::{damaged_answer, question, sound_records, Random};
 use reference::sample::questions;
-use reference::Part;
+use reference::{Part, DIRECTIONS};
 
 /// Every question that the log can tell apart: defined answer, verdict and records.
 #[test]
 fn all_questions_of_small_logs() {
     let mut random = Random::new(4);
-    let mut verdicts = [0; 4];
+    let mut verdicts = [[0; 5]; DIRECTIONS as usize];
     for _ in 0..250 {
         let sound = sound_records(&mut random, 11);
         let log = write(&sound);
@@ -35,12 +35,16 @@ fn all_questions_of_small_logs() {
             } else {
                 assert_eq!((part.start + part.length) as usize, bytes.len());
                 let header = part.start as usize - 5;
-                assert_eq!(bytes[header], if q.direction == 1 { b'B' } else { b'F' });
+                assert_eq!(bytes[header], if q.direction % 3 == 1 { b'B' } else { b'F' });
             }
-            verdicts[verdict as usize] += 1;
+            verdicts[q.direction as usize][verdict as usize] += 1;
         }
     }
-    assert!(verdicts[1..].iter().all(|&seen| seen > 1000), "{verdicts:?}");
+    for (direction, seen) in verdicts.iter().enumerate() {
+        let stop = if direction < 3 { 2 } else { 4 };
+        assert!([1, 3, stop].into_iter().all(|verdict| seen[verdict] > 1000), "{direction}: {seen:?}");
+        assert_eq!(seen[6 - stop], 0, "{direction}: {seen:?}");
+    }
 }
 
 /// An answer to another question, or of another log, is refused or is the defined one.
@@ -54,8 +58,8 @@ fn answers_do_not_pass_for_other_questions() {
         let commitment = commit(&log);
         let mut asked = question(&mut random, &records);
         let mut other = question(&mut random, &records);
-        asked.direction %= 3;
-        other.direction %= 3;
+        asked.direction %= DIRECTIONS;
+        other.direction %= DIRECTIONS;
         let bytes = answer(other, &log);
         let checked = check(asked, &commitment, &bytes);
         assert_eq!(checked.number == 0, bytes == answer(asked, &log));
@@ -102,7 +106,9 @@ fn damage_all(log: &[u8], q: reference::Question, values: impl Fn(u8, usize) -> 
 #[test]
 fn damaged_answers_of_log_k() {
     let all = |good: u8, _: usize| (0..=255).filter(|&value| value != good).collect();
-    for q in [ask(1, 2, 35), ask(2, 1, 39), ask(2, 2, 20), ask(0, 2, 19), ask(1, 3, 9), ask(0, 1, 12)] {
+    let before = [ask(1, 2, 35), ask(2, 1, 39), ask(2, 2, 20), ask(0, 2, 19), ask(1, 3, 9), ask(0, 1, 12)];
+    let after = [ask(4, 2, 21), ask(5, 2, 21), ask(5, 2, 20), ask(3, 2, 31), ask(4, 3, 9), ask(3, 1, 12)];
+    for q in before.into_iter().chain(after) {
         damage_all(&log_k(), q, all);
     }
 }
@@ -113,7 +119,7 @@ fn damaged_answers_of_random_logs() {
     for round in 0..150 {
         let records = sound_records(&mut random, 9);
         let mut q = question(&mut random, &records);
-        q.direction %= 3;
+        q.direction %= DIRECTIONS;
         let bits = move |good: u8, place: usize| vec![good ^ 1 << ((place + round) % 8), !good];
         damage_all(&write(&records), q, bits);
     }
@@ -128,7 +134,7 @@ fn any_other_bytes_are_refused() {
         let log = write(&records);
         let commitment = commit(&log);
         let mut q = question(&mut random, &records);
-        q.direction %= 3;
+        q.direction %= DIRECTIONS;
         let good = answer(q, &log);
         for _ in 0..40 {
             let bytes = damaged_answer(&mut random, &good);

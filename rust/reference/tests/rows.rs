@@ -5,7 +5,7 @@ mod common;
 use common::*;
 use reference::forge::{d, e, s, t, trace, v};
 use reference::random::{log_with_fault, nearly_sound_log, sound_log, sound_records, Random};
-use reference::{Outcome, Written};
+use reference::{Outcome, Question, Written};
 
 fn log_at(log: &[u8], number: u64, position: u64) {
     assert_eq!(reference::log(log), Written { number, position, length: 0 });
@@ -78,7 +78,7 @@ fn commitment_and_answer_rows() {
     let k = log_k();
     let out = |number| Written { number, position: 0, length: 0 };
     // 11 before the log, the log before 12, 12 before 13.
-    for direction in 3..=255 {
+    for direction in 6..=255 {
         assert_eq!(answer_with(ask(direction, 1, 10), &[], 0, 0).0, out(11));
         assert_eq!(answer_with(ask(direction, 1, 10), &k, ROOM, 900).0, out(11));
     }
@@ -87,7 +87,16 @@ fn commitment_and_answer_rows() {
     assert_eq!(commit_with(&k, 511, 0).0, Outcome { number: 12, position: 0 });
     assert_eq!(commit_with(&k, 512, 31).0, Outcome { number: 13, position: 0 });
     assert_eq!(commit_with(&k, 512, 32).0, Outcome { number: 0, position: 0 });
-    for (q, length) in [(ask(1, 2, 35), 446), (ask(2, 1, 39), 451), (ask(0, 2, 19), 219), (ask(0, 3, 0), 65)] {
+    for (q, length) in [
+        (ask(1, 2, 35), 446),
+        (ask(2, 1, 39), 451),
+        (ask(0, 2, 19), 219),
+        (ask(0, 3, 0), 65),
+        (ask(3, 2, 21), 393),
+        (ask(4, 2, 21), 446),
+        (ask(5, 2, 21), 429),
+        (ask(3, 2, 31), 219),
+    ] {
         assert_eq!(answer_with(q, &k, 512, length - 1).0, out(13));
         let written = answer_with(q, &k, 512, length).0;
         assert_eq!(written, Written { number: 0, position: 0, length: length as u64 });
@@ -97,44 +106,61 @@ fn commitment_and_answer_rows() {
 /// The proof of K's answer for 2 at 35 has 393 bytes: R 0, P 65, G 162, N 219, L 316.
 const PROOF: usize = 393;
 
+/// Two questions, by either relation, that find one version, and the proof that they share.
 struct Case {
+    questions: [Question; 2],
     commitment: Vec<u8>,
     proof: Vec<u8>,
 }
 
-fn backward() -> Case {
-    let bytes = answer(ask(1, 2, 35), &log_k());
-    Case { commitment: commit(&log_k()), proof: bytes[..PROOF].to_vec() }
+fn case(questions: [Question; 2]) -> Case {
+    let [proof, other] = questions.map(|q| answer(q, &log_k())[..PROOF].to_vec());
+    assert_eq!(proof, other);
+    Case { questions, commitment: commit(&log_k()), proof }
 }
 
-/// For 2 at 20, whose version is 2 at 20.
+/// The version is 2 at 30.
+fn backward() -> Case {
+    case([ask(1, 2, 35), ask(4, 2, 21)])
+}
+
+/// The version is 2 at 20.
 fn forward() -> Case {
-    let bytes = answer(ask(2, 2, 20), &log_k());
-    Case { commitment: commit(&log_k()), proof: bytes[..PROOF].to_vec() }
+    case([ask(2, 2, 20), ask(5, 2, 0)])
+}
+
+fn version_only() -> Case {
+    case([ask(0, 2, 35), ask(3, 2, 21)])
 }
 
 impl Case {
-    fn backward(&self, tail: &[u8]) -> reference::Checked {
-        let bytes = [&self.proof[..], tail].concat();
-        let checked = check(ask(1, 2, 35), &self.commitment, &bytes);
-        assert!(checked.number == 0 || records(ask(1, 2, 35), &self.commitment, &bytes).length == 0);
+    /// The check of any answer to both questions.
+    fn answered(&self, bytes: &[u8]) -> reference::Checked {
+        let [checked, other] = self.questions.map(|q| {
+            let checked = check(q, &self.commitment, bytes);
+            assert!(checked.number == 0 || records(q, &self.commitment, bytes).length == 0);
+            checked
+        });
+        assert_eq!(checked, other);
         checked
     }
-    fn forward(&self, tail: &[u8]) -> reference::Checked {
-        check(ask(2, 2, 20), &self.commitment, &[&self.proof[..], tail].concat())
+
+    /// The same, of the proof and a tail.
+    fn with(&self, tail: &[u8]) -> reference::Checked {
+        self.answered(&[&self.proof[..], tail].concat())
     }
 }
 
 #[test]
 fn check_11_and_14() {
     let case = backward();
-    for direction in 3..=255 {
+    for direction in 6..=255 {
         assert_eq!(check_with(ask(direction, 2, 35), &[], &[], 0), refused(11, 0));
         assert_eq!(check(ask(direction, 2, 35), &case.commitment, &case.proof), refused(11, 0));
     }
     for length in (0..70).filter(|&length| length != 32) {
         let commitment = vec![0; length];
-        for direction in 0..3 {
+        for direction in 0..6 {
             assert_eq!(check_with(ask(direction, 2, 35), &commitment, &[], 0), refused(14, 0));
             assert_eq!(check(ask(direction, 2, 35), &commitment, &case.proof), refused(14, 0));
         }
@@ -144,7 +170,7 @@ fn check_11_and_14() {
 
 #[test]
 fn proof_strings() {
-    let case = backward();
+    let case = version_only();
     let starts = [0usize, 65, 162, 219, 316, 393];
     for pair in starts.windows(2) {
         for place in pair[0]..pair[1] {
@@ -152,40 +178,40 @@ fn proof_strings() {
             let mut bytes = case.proof.clone();
             bytes[place] ^= 0x20;
             let number = if place == pair[0] { 16 } else { 17 };
-            assert_eq!(check(ask(0, 2, 35), &case.commitment, &bytes), refused(number, pair[0]));
+            assert_eq!(case.answered(&bytes), refused(number, pair[0]));
             // Cut: 15 at the string; a wrong letter wins over a cut string.
-            assert_eq!(check(ask(0, 2, 35), &case.commitment, &case.proof[..place]), refused(15, pair[0]));
+            assert_eq!(case.answered(&case.proof[..place]), refused(15, pair[0]));
             let mut cut = case.proof[..place + 1].to_vec();
             cut[pair[0]] = b'Q';
-            assert_eq!(check(ask(0, 2, 35), &case.commitment, &cut), refused(16, pair[0]));
+            assert_eq!(case.answered(&cut), refused(16, pair[0]));
         }
     }
-    let mut longer = case.proof.clone();
-    longer.push(b'B');
-    assert_eq!(check(ask(0, 2, 35), &case.commitment, &longer), refused(18, PROOF));
-    let stopped = answer(ask(0, 3, 0), &log_k());
-    assert_eq!(check(ask(1, 3, 0), &case.commitment, &[stopped, vec![0]].concat()), refused(18, 65));
-    let stopped = answer(ask(0, 2, 19), &log_k());
-    assert_eq!(check(ask(2, 2, 19), &case.commitment, &[stopped, vec![0]].concat()), refused(18, 219));
+    assert_eq!(case.with(b"B"), refused(18, PROOF));
+    for (direction, entity, time, length) in [(1, 3, 0, 65), (2, 2, 19, 219), (4, 3, 0, 65), (5, 2, 31, 219)] {
+        let q = ask(direction, entity, time);
+        assert_eq!(check(q, &case.commitment, &[answer(q, &log_k()), vec![0]].concat()), refused(18, length));
+    }
 }
 
 #[test]
 fn trace_header() {
     let case = backward();
-    assert_eq!(case.backward(&[]), refused(15, PROOF));
-    assert_eq!(case.backward(b"F"), refused(16, PROOF));
-    assert_eq!(case.backward(b"E"), refused(16, PROOF));
-    assert_eq!(case.backward(&[b'B', 0, 0, 0]), refused(15, PROOF));
-    assert_eq!(case.backward(&[b'B', 0, 0, 0, 0]), refused(19, PROOF));
-    assert_eq!(case.backward(&[b'B', 0, 1, 0, 0]), refused(19, PROOF));
-    assert_eq!(case.backward(&[b'B', 0xff, 0xff, 0xff, 0xff]), refused(19, PROOF));
+    assert_eq!(case.with(&[]), refused(15, PROOF));
+    assert_eq!(case.with(b"F"), refused(16, PROOF));
+    assert_eq!(case.with(b"E"), refused(16, PROOF));
+    assert_eq!(case.with(&[b'B', 0, 0, 0]), refused(15, PROOF));
+    assert_eq!(case.with(&[b'B', 0, 0, 0, 0]), refused(19, PROOF));
+    assert_eq!(case.with(&[b'B', 0, 1, 0, 0]), refused(19, PROOF));
+    assert_eq!(case.with(&[b'B', 0xff, 0xff, 0xff, 0xff]), refused(19, PROOF));
     // 19 before 12, 12 before the records.
-    let bytes = [&case.proof[..], &[b'B', 0, 0, 0xff, 0xff]].concat();
-    assert_eq!(check_with(ask(1, 2, 35), &case.commitment, &bytes, 65_535 * 128 - 1), refused(12, 0));
-    assert_eq!(check_with(ask(1, 2, 35), &case.commitment, &bytes, 65_535 * 128), refused(15, PROOF + 5));
-    let bytes = [&case.proof[..], &[b'B', 0, 1, 0, 0]].concat();
-    assert_eq!(check_with(ask(1, 2, 35), &case.commitment, &bytes, 0), refused(19, PROOF));
-    assert_eq!(forward().forward(b"B"), refused(16, PROOF));
+    for q in case.questions {
+        let bytes = [&case.proof[..], &[b'B', 0, 0, 0xff, 0xff]].concat();
+        assert_eq!(check_with(q, &case.commitment, &bytes, 65_535 * 128 - 1), refused(12, 0));
+        assert_eq!(check_with(q, &case.commitment, &bytes, 65_535 * 128), refused(15, PROOF + 5));
+        let bytes = [&case.proof[..], &[b'B', 0, 1, 0, 0]].concat();
+        assert_eq!(check_with(q, &case.commitment, &bytes, 0), refused(19, PROOF));
+    }
+    assert_eq!(forward().with(b"B"), refused(16, PROOF));
 }
 
 #[test]
@@ -193,28 +219,28 @@ fn backward_records() {
     let case = backward();
     let first = PROOF + 5;
     let good = trace(b'B', &[e(1, 10), e(2, 20), v(2, 30, 7, 1, 0)]);
-    assert_eq!(case.backward(&good), accepted(3, 30, 3));
+    assert_eq!(case.with(&good), accepted(3, 30, 3));
     // 15 at the record that is cut, or that is missing.
     for cut in 5..good.len() {
         let start = [0, 13, 26].into_iter().rev().find(|start| cut - 5 >= *start).unwrap();
-        assert_eq!(case.backward(&good[..cut]), refused(15, first + start));
+        assert_eq!(case.with(&good[..cut]), refused(15, first + start));
     }
     // 16: letters of the other direction, also on a cut record.
     for letter in (0..=255).filter(|letter| !b"EV".contains(letter)) {
-        assert_eq!(case.backward(&[b'B', 0, 0, 0, 1, letter]), refused(16, first));
+        assert_eq!(case.with(&[b'B', 0, 0, 0, 1, letter]), refused(16, first));
     }
-    assert_eq!(case.backward(&trace(b'B', &[e(1, 10), t(2, 20, 0)])), refused(16, first + 13));
+    assert_eq!(case.with(&trace(b'B', &[e(1, 10), t(2, 20, 0)])), refused(16, first + 13));
     // 20: a V first, either position, the record's own position; before 21.
-    assert_eq!(case.backward(&trace(b'B', &[v(2, 30, 7, 0, 0)])), refused(20, first));
-    assert_eq!(case.backward(&trace(b'B', &[e(1, 10), v(2, 30, 7, 0, 1)])), refused(20, first + 13));
-    assert_eq!(case.backward(&trace(b'B', &[e(1, 10), v(2, 30, 7, 1, 0)])), refused(20, first + 13));
-    assert_eq!(case.backward(&trace(b'B', &[e(1, 10), v(2, 30, 7, 0, u32::MAX)])), refused(20, first + 13));
-    assert_eq!(case.backward(&trace(b'B', &[e(1, 10), v(2, 10, 7, 1, 0)])), refused(20, first + 13));
+    assert_eq!(case.with(&trace(b'B', &[v(2, 30, 7, 0, 0)])), refused(20, first));
+    assert_eq!(case.with(&trace(b'B', &[e(1, 10), v(2, 30, 7, 0, 1)])), refused(20, first + 13));
+    assert_eq!(case.with(&trace(b'B', &[e(1, 10), v(2, 30, 7, 1, 0)])), refused(20, first + 13));
+    assert_eq!(case.with(&trace(b'B', &[e(1, 10), v(2, 30, 7, 0, u32::MAX)])), refused(20, first + 13));
+    assert_eq!(case.with(&trace(b'B', &[e(1, 10), v(2, 10, 7, 1, 0)])), refused(20, first + 13));
     // 21: equal and lower time; before the next record's rows.
-    assert_eq!(case.backward(&trace(b'B', &[e(1, 10), e(2, 10)])), refused(21, first + 13));
-    assert_eq!(case.backward(&trace(b'B', &[e(1, 10), e(2, 9), vec![b'X']])), refused(21, first + 13));
+    assert_eq!(case.with(&trace(b'B', &[e(1, 10), e(2, 10)])), refused(21, first + 13));
+    assert_eq!(case.with(&trace(b'B', &[e(1, 10), e(2, 9), vec![b'X']])), refused(21, first + 13));
     // A first record may have time 0.
-    assert_eq!(case.backward(&trace(b'B', &[e(1, 0), e(2, 0)])), refused(21, first + 13));
+    assert_eq!(case.with(&trace(b'B', &[e(1, 0), e(2, 0)])), refused(21, first + 13));
 }
 
 #[test]
@@ -222,29 +248,29 @@ fn backward_ends() {
     let case = backward();
     let first = PROOF + 5;
     let good = trace(b'B', &[e(1, 10), e(2, 20), v(2, 30, 7, 1, 0)]);
-    assert_eq!(case.backward(&[good.clone(), vec![0]].concat()), refused(18, PROOF + good.len()));
+    assert_eq!(case.with(&[good.clone(), vec![0]].concat()), refused(18, PROOF + good.len()));
     // 18 before 22, 23 and 24.
     let idle = trace(b'B', &[e(1, 10), e(2, 20), e(3, 25), v(2, 30, 7, 1, 0)]);
-    assert_eq!(case.backward(&[idle.clone(), vec![0]].concat()), refused(18, PROOF + idle.len()));
+    assert_eq!(case.with(&[idle.clone(), vec![0]].concat()), refused(18, PROOF + idle.len()));
     // An idle record with a true digest.
-    assert_eq!(case.backward(&idle), refused(22, first + 26));
+    assert_eq!(case.with(&idle), refused(22, first + 26));
     // The lowest of two; a record that only an idle record refers to is referred to.
     let two = trace(b'B', &[e(0, 1), e(1, 10), e(2, 20), e(3, 25), v(2, 30, 7, 2, 1)]);
-    assert_eq!(case.backward(&two), refused(22, first));
+    assert_eq!(case.with(&two), refused(22, first));
     let chain = trace(b'B', &[e(9, 1), e(1, 10), e(2, 20), v(9, 25, 7, 0, 1), v(2, 30, 7, 2, 1)]);
-    assert_eq!(case.backward(&chain), refused(22, first + 39));
+    assert_eq!(case.with(&chain), refused(22, first + 39));
     // 22 before 23 before 24.
-    assert_eq!(case.backward(&trace(b'B', &[e(1, 10), e(2, 20)])), refused(22, first));
-    assert_eq!(case.backward(&trace(b'B', &[e(2, 20)])), refused(23, first));
-    assert_eq!(case.backward(&trace(b'B', &[e(1, 30)])), refused(23, first));
-    assert_eq!(case.backward(&trace(b'B', &[e(2, 31)])), refused(23, first));
-    assert_eq!(case.backward(&trace(b'B', &[e(2, 30)])), refused(24, first));
+    assert_eq!(case.with(&trace(b'B', &[e(1, 10), e(2, 20)])), refused(22, first));
+    assert_eq!(case.with(&trace(b'B', &[e(2, 20)])), refused(23, first));
+    assert_eq!(case.with(&trace(b'B', &[e(1, 30)])), refused(23, first));
+    assert_eq!(case.with(&trace(b'B', &[e(2, 31)])), refused(23, first));
+    assert_eq!(case.with(&trace(b'B', &[e(2, 30)])), refused(24, first));
     let wrong = trace(b'B', &[e(1, 10), e(2, 20), v(2, 30, 8, 1, 0)]);
-    assert_eq!(case.backward(&wrong), refused(24, first + 26));
+    assert_eq!(case.with(&wrong), refused(24, first + 26));
     let wrong = trace(b'B', &[e(1, 11), e(2, 20), v(2, 30, 7, 1, 0)]);
-    assert_eq!(case.backward(&wrong), refused(24, first + 26));
+    assert_eq!(case.with(&wrong), refused(24, first + 26));
     let swapped = trace(b'B', &[e(1, 10), e(2, 20), v(2, 30, 7, 0, 1)]);
-    assert_eq!(case.backward(&swapped), refused(24, first + 26));
+    assert_eq!(case.with(&swapped), refused(24, first + 26));
 }
 
 #[test]
@@ -252,30 +278,30 @@ fn forward_records() {
     let case = forward();
     let first = PROOF + 5;
     let good = trace(b'F', &[s(2, 20), t(2, 30, 0), d(1, 40, 8, 1)]);
-    assert_eq!(case.forward(&good), accepted(3, 20, 3));
+    assert_eq!(case.with(&good), accepted(3, 20, 3));
     for cut in 5..good.len() {
         let start = [0, 13, 30].into_iter().rev().find(|start| cut - 5 >= *start).unwrap();
-        assert_eq!(case.forward(&good[..cut]), refused(15, first + start));
+        assert_eq!(case.with(&good[..cut]), refused(15, first + start));
     }
     // Only S first, and S only first.
     for letter in (0..=255).filter(|letter| *letter != b'S') {
-        assert_eq!(case.forward(&[b'F', 0, 0, 0, 1, letter]), refused(16, first));
+        assert_eq!(case.with(&[b'F', 0, 0, 0, 1, letter]), refused(16, first));
     }
     for letter in (0..=255).filter(|letter| !b"TDV".contains(letter)) {
-        assert_eq!(case.forward(&trace(b'F', &[s(2, 20), vec![letter]])), refused(16, first + 13));
+        assert_eq!(case.with(&trace(b'F', &[s(2, 20), vec![letter]])), refused(16, first + 13));
     }
-    assert_eq!(case.forward(&trace(b'F', &[s(2, 20), t(2, 30, 1)])), refused(20, first + 13));
-    assert_eq!(case.forward(&trace(b'F', &[s(2, 20), d(2, 30, 0, 1)])), refused(20, first + 13));
-    assert_eq!(case.forward(&trace(b'F', &[s(2, 20), v(2, 30, 0, 0, 1)])), refused(20, first + 13));
-    assert_eq!(case.forward(&trace(b'F', &[s(2, 20), v(2, 30, 0, 1, 0)])), refused(20, first + 13));
-    assert_eq!(case.forward(&trace(b'F', &[s(2, 20), t(2, 20, 0)])), refused(21, first + 13));
-    assert_eq!(case.forward(&[good.clone(), vec![0]].concat()), refused(18, PROOF + good.len()));
+    assert_eq!(case.with(&trace(b'F', &[s(2, 20), t(2, 30, 1)])), refused(20, first + 13));
+    assert_eq!(case.with(&trace(b'F', &[s(2, 20), d(2, 30, 0, 1)])), refused(20, first + 13));
+    assert_eq!(case.with(&trace(b'F', &[s(2, 20), v(2, 30, 0, 0, 1)])), refused(20, first + 13));
+    assert_eq!(case.with(&trace(b'F', &[s(2, 20), v(2, 30, 0, 1, 0)])), refused(20, first + 13));
+    assert_eq!(case.with(&trace(b'F', &[s(2, 20), t(2, 20, 0)])), refused(21, first + 13));
+    assert_eq!(case.with(&[good.clone(), vec![0]].concat()), refused(18, PROOF + good.len()));
     // 23 and 24 at the first record.
-    assert_eq!(case.forward(&trace(b'F', &[s(1, 20), t(2, 30, 0)])), refused(23, first));
-    assert_eq!(case.forward(&trace(b'F', &[s(2, 21), t(2, 30, 0)])), refused(23, first));
-    assert_eq!(case.forward(&trace(b'F', &[s(2, 20), t(2, 30, 0)])), refused(24, first));
-    assert_eq!(case.forward(&trace(b'F', &[s(2, 20), t(2, 30, 0), d(1, 40, 9, 1)])), refused(24, first));
-    assert_eq!(case.forward(&trace(b'F', &[s(2, 20), t(2, 30, 0), v(1, 40, 8, 0, 1)])), refused(24, first));
+    assert_eq!(case.with(&trace(b'F', &[s(1, 20), t(2, 30, 0)])), refused(23, first));
+    assert_eq!(case.with(&trace(b'F', &[s(2, 21), t(2, 30, 0)])), refused(23, first));
+    assert_eq!(case.with(&trace(b'F', &[s(2, 20), t(2, 30, 0)])), refused(24, first));
+    assert_eq!(case.with(&trace(b'F', &[s(2, 20), t(2, 30, 0), d(1, 40, 9, 1)])), refused(24, first));
+    assert_eq!(case.with(&trace(b'F', &[s(2, 20), t(2, 30, 0), v(1, 40, 8, 0, 1)])), refused(24, first));
     let more = trace(b'F', &[s(2, 20), t(2, 30, 0), d(1, 40, 8, 1), d(1, 41, 8, 1)]);
-    assert_eq!(case.forward(&more), refused(24, first));
+    assert_eq!(case.with(&more), refused(24, first));
 }

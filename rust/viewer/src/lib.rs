@@ -46,6 +46,13 @@
 //!         ]
 //!     );
 //!
+//!     // what became of entity 2 from time 31 on? nothing, and the answer says when its last version was
+//!     let late = Question { direction: Direction::ForwardAfter, entity: 2, time: 31 };
+//!     let mut none = vec![0; viewer::most_answer(late.direction, records)];
+//!     let length = viewer::answer(&late, &log, &mut viewer::work_area(records), &mut none)?;
+//!     none.truncate(length as usize);
+//!     assert_eq!(viewer::check(&late, &commitment, &none, &mut [])?, Verdict::NoneSoLate { last: 30 });
+//!
 //!     // a changed answer is refused
 //!     answer[437] ^= 1;
 //!     let refusal = viewer::checked(&question, &commitment, &answer, &mut work).unwrap_err();
@@ -61,16 +68,21 @@ mod refusal;
 mod room;
 pub mod stack;
 
-pub use question::{Direction, Question, UnknownDirection, DIRECTIONS};
+pub use question::{Direction, Question, Relation, UnknownDirection, Way, DIRECTIONS};
 pub use record::{Edge, Record, Records};
 pub use refusal::Refusal;
 pub use room::{most_answer, work_area, work_for, work_length, DIGEST, MOST_LISTING, MOST_RECORDS};
 
-/// What an accepted answer says. A found version has its time, and its trace the number of records (0 without a trace).
+/// What an accepted answer says.
 #[derive(Clone, Copy, Debug, PartialEq, Eq, Hash)]
 pub enum Verdict {
+    /// No version of the entity.
     NoEntity,
-    NotYet,
+    /// No version at or before the time; the entity's first one is at `first`.
+    NotYet { first: u64 },
+    /// No version at or after the time; the entity's last one is at `last`.
+    NoneSoLate { last: u64 },
+    /// The version's time, and the number of its trace's records, 0 without a trace.
     Found { time: u64, count: u64 },
 }
 
@@ -134,8 +146,9 @@ pub fn check(question: &Question, commitment: &[u8], answer: &[u8], work: &mut [
     let checked = plain::check(question.direction.number(), question.entity, question.time, commitment, answer, work);
     match (checked.number, checked.verdict) {
         (0, 1) => Ok(Verdict::NoEntity),
-        (0, 2) => Ok(Verdict::NotYet),
+        (0, 2) => Ok(Verdict::NotYet { first: checked.time }),
         (0, 3) => Ok(Verdict::Found { time: checked.time, count: checked.count }),
+        (0, 4) => Ok(Verdict::NoneSoLate { last: checked.time }),
         (0, verdict) => unreachable!("there is no verdict {verdict}"),
         (number, _) => Err(Refusal { number, position: checked.position }),
     }

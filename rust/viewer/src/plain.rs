@@ -20,7 +20,8 @@ pub struct Written {
     pub length: u64,
 }
 
-/// The same, with the verdict: 0 refused, 1 no entity, 2 not yet, 3 found, at the time and with the count of records.
+/// The same, with the verdict: 0 refused, 1 no entity, 2 not yet, with the entity's first time, 3 found, with the version's time and the
+/// count of records, 4 none so late, with the entity's last time.
 #[repr(C)]
 #[derive(Clone, Copy, Debug, PartialEq, Eq)]
 pub struct Checked {

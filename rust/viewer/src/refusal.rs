@@ -10,7 +10,7 @@ pub struct Refusal {
     pub position: u64,
 }
 
-/// Each row's number and cause. Number 10 is not used again (document 02, A10).
+/// Each row's number and cause. Number 10 is not used again (document 02, A10), and number 11 means another direction than it did (A1).
 const CAUSES: [(u64, &str); 23] = [
     (1, "log empty"),
     (2, "record 65,536 begins"),
@@ -21,7 +21,7 @@ const CAUSES: [(u64, &str); 23] = [
     (7, "flow's source unborn"),
     (8, "destination unborn"),
     (9, "source is destination"),
-    (11, "direction above 2"),
+    (11, "direction above 5"),
     (12, "work area below 128 bytes a record"),
     (13, "output too short for the result"),
     (14, "commitment not 32 bytes"),
@@ -78,9 +78,20 @@ mod tests {
         assert_eq!(table.len(), CAUSES.len() + 1);
         for (place, (cause, number)) in table.into_iter().enumerate() {
             assert_eq!(number, place as u64 + 1);
-            let words = if number == 10 { "no row of the table" } else { &cause };
+            let words = match number {
+                10 => "no row of the table",
+                11 => now_means_a("direction above 5"),
+                _ => &cause,
+            };
             assert_eq!(said(number, 7), format!("refused {number} at 7: {words}"));
         }
+    }
+
+    /// The words, if request A1 has them for number 11.
+    fn now_means_a(words: &str) -> &str {
+        let requests = include_str!("../../../docs/02-change-requests.md");
+        assert!(requests.contains(&format!("Number 11 now means a {words}.")));
+        words
     }
 
     #[test]

@@ -42,9 +42,9 @@ pub fn work_for(answer: &[u8]) -> Vec<u8> {
 pub fn most_answer(direction: Direction, records: usize) -> usize {
     let records = records.clamp(1, MOST_RECORDS);
     let proof = R + G + L + P_OR_N * most_depth(records);
-    match direction {
-        Direction::VersionOnly => proof,
-        Direction::Backward | Direction::Forward => proof + HEADER + SHORTEST_RECORD + LONGEST_RECORD * (records - 1),
+    match direction.way() {
+        None => proof,
+        Some(_) => proof + HEADER + SHORTEST_RECORD + LONGEST_RECORD * (records - 1),
     }
 }
 
@@ -78,11 +78,13 @@ mod tests {
 
     #[test]
     fn without_a_trace_the_bound_is_met() {
-        let asked = Question { direction: 0, entity: 0, time: 0 };
-        for records in 1..=70 {
-            let length = |births| Host::new(&births_then_flows(births, records)).answer(&asked).len();
-            let longest = (records.min(2)..=records).map(length).max();
-            assert_eq!(longest, Some(most_answer(Direction::VersionOnly, records)), "{records} records");
+        for direction in [Direction::VersionOnly, Direction::VersionOnlyAfter] {
+            let asked = Question { direction: direction.number(), entity: 0, time: 0 };
+            for records in 1..=70 {
+                let length = |births| Host::new(&births_then_flows(births, records)).answer(&asked).len();
+                let longest = (records.min(2)..=records).map(length).max();
+                assert_eq!(longest, Some(most_answer(direction, records)), "{records} records");
+            }
         }
     }
 
@@ -106,6 +108,8 @@ mod tests {
         assert_eq!(most_answer(Direction::Backward, MOST_RECORDS), 3_206 + 5 + 13 + 22 * 65_534);
         assert_eq!(most_answer(Direction::Forward, usize::MAX), most_answer(Direction::Forward, MOST_RECORDS));
         assert_eq!(most_answer(Direction::VersionOnly, 0), most_answer(Direction::VersionOnly, 1));
+        let before_and_after = DIRECTIONS.map(|direction| most_answer(direction, MOST_RECORDS));
+        assert_eq!(before_and_after[..3], before_and_after[3..]);
     }
 
     #[test]

@@ -8,7 +8,7 @@ use reference::host::Host;
 use reference::log::{write, Record};
 use reference::random::{self, Random};
 use reference::sample::{births, in_turn, one_source, questions};
-use reference::Question;
+use reference::{Question, DIRECTIONS};
 
 const MOST: usize = 65_535;
 
@@ -33,7 +33,7 @@ fn all_questions(seed: u64, logs: usize, most: usize) {
         let logged = Logged::new(&records);
         questions(&records).iter().for_each(|question| every_size(&logged, question, &mut met));
     }
-    for direction in 0..3 {
+    for direction in 0..6 {
         met.exactly(direction, 1_000, &[0, 12, 13]);
     }
 }
@@ -55,7 +55,7 @@ fn larger_logs() {
     for length in (1..=70).chain([255, 256, 257, 1_000]) {
         for records in [random::records_of_length(&mut random, length), births(length), one_source(2 + length)] {
             let logged = Logged::new(&records);
-            for direction in 0..3 {
+            for direction in 0..6 {
                 for _ in 0..4 {
                     let question = Question { direction, ..random::question(&mut random, &records) };
                     logged.round_trip(&question, 3);
@@ -73,16 +73,17 @@ fn order_of_the_rows() {
     for round in 0..20_000 {
         let fault = random::nearly_sound_log(&mut random, 12);
         let sound = random::sound_records(&mut random, 12);
-        let direction = [0, 1, 2, 3, 255][random.index(5)];
+        let direction = [0, 1, 2, 3, 4, 5, 6, 255][random.index(8)];
         let unsound = random.once_in(2);
         let log = if unsound { fault.log } else { write(&sound) };
         let question = Question { direction, ..random::question(&mut random, &sound) };
         let enough = 128 * sound.len();
         let work = if random.once_in(2) { enough } else { random.index(enough) };
-        let length = Host::new(&sound).answer(&question).len();
+        let known = Question { direction: direction % DIRECTIONS, ..question };
+        let length = Host::new(&sound).answer(&known).len();
         let out = if random.once_in(2) { length } else { random.index(length) };
         let (number, position) = match () {
-            _ if direction > 2 => (11, 0),
+            _ if direction > 5 => (11, 0),
             _ if unsound => (fault.number, fault.position as usize),
             _ if work < enough => (12, 0),
             _ if out < length => (13, 0),
@@ -115,12 +116,14 @@ fn full_history(records: &[Record], question: Question, count: usize) {
 fn the_most_records_backward() {
     full_history(&one_source(MOST), ask(1, 1, u64::MAX), MOST);
     full_history(&in_turn(MOST), ask(1, 1, u64::MAX), MOST);
+    full_history(&in_turn(MOST), ask(4, 1, MOST as u64 - 1), MOST);
 }
 
 #[test]
 fn the_most_records_forward() {
     full_history(&one_source(MOST), ask(2, 0, 0), MOST - 1);
     full_history(&in_turn(MOST), ask(2, 0, 0), MOST - 1);
+    full_history(&one_source(MOST), ask(5, 0, 0), MOST - 1);
 }
 
 #[test]
@@ -132,7 +135,7 @@ fn the_most_records_of_other_shapes() {
     assert_eq!(answer(&question, &fault.log, 128 * 65_536, 2_000_000).0, refused(2, fault.position as usize));
     let sound = reference::log::read(&fault.log[..fault.position as usize]).expect("65,535 sound records");
     let logged = Logged::new(&sound);
-    for direction in 0..3 {
+    for direction in 0..6 {
         logged.round_trip(&Question { direction, ..random::question(&mut random, &sound) }, 1);
     }
 }

@@ -61,16 +61,18 @@ fn every_value(question: Question) -> Met {
 #[test]
 fn every_byte_of_a_backward_answer() {
     every_value(ask(1, 2, 35)).exactly(1, 1, &[12, 15, 16, 17, 18, 19, 20, 21, 22, 23, 24]);
+    every_value(ask(4, 2, 21)).exactly(4, 1, &[12, 15, 16, 17, 18, 19, 20, 21, 22, 23, 24]);
 }
 
 #[test]
 fn every_byte_of_a_forward_answer() {
     every_value(ask(2, 1, 39)).exactly(2, 1, &[12, 15, 16, 17, 18, 19, 20, 21, 23, 24]);
+    every_value(ask(5, 1, 0)).exactly(5, 1, &[12, 15, 16, 17, 18, 19, 20, 21, 23, 24]);
 }
 
 #[test]
 fn every_byte_of_answers_without_trace() {
-    for question in [ask(0, 2, 35), ask(1, 2, 19), ask(2, 3, 0)] {
+    for question in [ask(0, 2, 35), ask(1, 2, 19), ask(2, 3, 0), ask(3, 2, 21), ask(4, 2, 31), ask(5, 3, 0)] {
         every_value(question).exactly(question.direction.into(), 1, &[15, 16, 17, 18]);
     }
 }
@@ -78,7 +80,7 @@ fn every_byte_of_answers_without_trace() {
 /// A question of a known direction about a random log, with its answer.
 fn any_asked(random: &mut Random, most: usize) -> Asked {
     let records = random::sound_records(random, most);
-    let question = Question { direction: random.below(3) as u8, ..random::question(random, &records) };
+    let question = Question { direction: random::known_direction(random), ..random::question(random, &records) };
     Asked::new(&Host::new(&records), question)
 }
 
@@ -86,14 +88,16 @@ fn any_asked(random: &mut Random, most: usize) -> Asked {
 fn every_byte_of_random_answers() {
     let mut random = Random::new(51);
     let mut met = Met::default();
-    for round in 0..120 {
+    for round in 0..400 {
         let asked = any_asked(&mut random, 9);
         cut_and_extend(&asked, &mut met);
         alter(&asked, &mut met, |good, place| vec![good ^ 1 << ((place + round) % 8), !good]);
     }
-    met.exactly(0, 100, &[15, 16, 17, 18]);
-    met.exactly(1, 5, &[12, 15, 16, 17, 18, 19, 20, 21, 22, 23, 24]);
-    met.exactly(2, 5, &[12, 15, 16, 17, 18, 19, 20, 21, 23, 24]);
+    for (only, backward, forward) in [(0, 1, 2), (3, 4, 5)] {
+        met.exactly(only, 100, &[15, 16, 17, 18]);
+        met.exactly(backward, 3, &[12, 15, 16, 17, 18, 19, 20, 21, 22, 23, 24]);
+        met.exactly(forward, 3, &[12, 15, 16, 17, 18, 19, 20, 21, 23, 24]);
+    }
     assert!(met.total() > 100_000, "{} answers", met.total());
 }
 
@@ -102,7 +106,7 @@ fn every_byte_of_random_answers() {
 fn parts_of_random_answers() {
     let mut random = Random::new(52);
     let mut met = Met::default();
-    for _ in 0..4_000 {
+    for _ in 0..8_000 {
         let asked = any_asked(&mut random, 12);
         for _ in 0..10 {
             let bytes = random::damaged_answer(&mut random, &asked.defined);
@@ -111,9 +115,11 @@ fn parts_of_random_answers() {
             met.add(&asked.question, &checked);
         }
     }
-    met.exactly(0, 100, &[15, 16, 17, 18]);
-    met.includes(1, 5, &[12, 15, 16, 17, 18, 19, 20, 21, 23, 24]);
-    met.includes(2, 5, &[12, 15, 16, 17, 18, 19, 20, 21, 23, 24]);
+    for (only, backward, forward) in [(0, 1, 2), (3, 4, 5)] {
+        met.exactly(only, 100, &[15, 16, 17, 18]);
+        met.includes(backward, 5, &[12, 15, 16, 17, 18, 19, 20, 21, 23, 24]);
+        met.includes(forward, 5, &[12, 15, 16, 17, 18, 19, 20, 21, 23, 24]);
+    }
 }
 
 /// The answer with one or two changes of what its trace shows, and now and then of its letters, its count or its end.
@@ -122,14 +128,14 @@ fn edited(random: &mut Random, traced: &Traced) -> Vec<u8> {
     for _ in 0..1 + random.index(2) {
         edit(random, &mut versions);
     }
-    let direction = traced.asked.question.direction;
-    let mut records = records_of(direction, &versions);
+    let way = way(&traced.asked.question);
+    let mut records = records_of(way, &versions);
     if random.once_in(16) {
         edit_letter(random, &mut records);
     }
     let count = any_count(random, records.len());
     let extra: &[u8] = if random.once_in(16) { b"E" } else { b"" };
-    [&traced.proof, &trace_with_count(trace_letter(direction), count, &records)[..], extra].concat()
+    [&traced.proof, &trace_with_count(trace_letter(way), count, &records)[..], extra].concat()
 }
 
 /// Answers with a trace, of which every record is whole, and positions and count follow the change.
@@ -151,9 +157,11 @@ fn edited_traces(seed: u64, direction: u8, rows: &[usize]) {
 #[test]
 fn edited_traces_backward() {
     edited_traces(53, 1, &[0, 12, 15, 16, 18, 19, 20, 21, 22, 23, 24]);
+    edited_traces(55, 4, &[0, 12, 15, 16, 18, 19, 20, 21, 22, 23, 24]);
 }
 
 #[test]
 fn edited_traces_forward() {
     edited_traces(54, 2, &[0, 12, 15, 16, 18, 19, 20, 21, 23, 24]);
+    edited_traces(56, 5, &[0, 12, 15, 16, 18, 19, 20, 21, 23, 24]);
 }

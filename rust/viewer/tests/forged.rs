@@ -10,6 +10,7 @@ use reference::forge::{root, s, trace, trace_of, Fitting};
 use reference::graph::{Dependency, Name, Version};
 use reference::random::{self, Random};
 use reference::sha256::sha256;
+use reference::trace::found_place;
 use reference::Question;
 use viewer::Verdict;
 
@@ -28,6 +29,9 @@ fn own_keys_are_not_compared() {
     assert_eq!(check_fitting(ask(0, 1, 4), &fitting, 0), found(500, 0));
     assert_eq!(check_fitting(ask(0, 1, 2), &fitting, 0), refused(18, 122));
     assert_eq!(check_fitting(ask(0, 2, 4), &fitting, 0), refused(18, 65));
+    assert_eq!(check_fitting(ask(3, 1, 2), &fitting, 0), found(500, 0));
+    assert_eq!(check_fitting(ask(3, 1, 4), &fitting, 0), refused(18, 122));
+    assert_eq!(check_fitting(ask(3, 2, 2), &fitting, 0), refused(18, 65));
 }
 
 #[test]
@@ -42,22 +46,80 @@ fn keys_beyond_32_bits() {
     assert_eq!(check_fitting(ask(0, u32::MAX, 4), &around, 0), refused(15, 162));
 }
 
+/// R, G whose tree is known by the first keys, and an N; then the two Ls below it, at 500 and 600.
+fn forked(top: (u64, u64), left: u64, right: u64) -> (Fitting, [Vec<u8>; 2]) {
+    let leaves = [500, 600].map(|time| leaf(5, time, &[1; 32], &[2; 32]));
+    let n = node(b'N', &known(left, left, &leaves[0]), &known(right, right, &leaves[1]));
+    let g = group(&known(top.0, top.1, &n));
+    (proof(&[root(&known(1, 1, &g)), g, n]), leaves)
+}
+
+fn followed_by(fitting: &Fitting, string: &[u8]) -> Fitting {
+    Fitting { answer: [&fitting.answer[..], string].concat(), ..fitting.clone() }
+}
+
+fn up_to_g(fitting: &Fitting) -> Fitting {
+    Fitting { answer: fitting.answer[..122].to_vec(), ..fitting.clone() }
+}
+
+/// The walk stops below N, and reports the key that is known there and not the one known at G.
+#[test]
+fn stops_below_n() {
+    let (fitting, [left, right]) = forked((2, 30), 8, 20);
+    for direction in 0..3 {
+        assert_eq!(check_fitting(ask(direction, 1, 1), &up_to_g(&fitting), 0), Ok(Verdict::NotYet { first: 2 }));
+        assert_eq!(check_fitting(ask(direction, 1, 2), &fitting, 0), Ok(Verdict::NotYet { first: 8 }));
+        assert_eq!(check_fitting(ask(direction, 1, 7), &fitting, 0), Ok(Verdict::NotYet { first: 8 }));
+    }
+    for direction in 3..6 {
+        assert_eq!(check_fitting(ask(direction, 1, 21), &fitting, 0), Ok(Verdict::NoneSoLate { last: 20 }));
+        assert_eq!(check_fitting(ask(direction, 1, 30), &fitting, 0), Ok(Verdict::NoneSoLate { last: 20 }));
+        assert_eq!(check_fitting(ask(direction, 1, 31), &up_to_g(&fitting), 0), Ok(Verdict::NoneSoLate { last: 30 }));
+    }
+    for (direction, stopped, opened, string, time) in [(0, 7, 8, left, 500), (3, 21, 20, right, 600)] {
+        let longer = followed_by(&fitting, &string);
+        assert_eq!(check_fitting(ask(direction, 1, stopped), &longer, 0), refused(18, fitting.answer.len()));
+        assert_eq!(check_fitting(ask(direction, 1, opened), &longer, 0), found(time, 0));
+    }
+}
+
+/// At N the right's least key decides, or looking ahead the left's greatest, and no other.
+#[test]
+fn the_key_that_decides_at_n() {
+    for (left_key, right_key, direction, time, expected) in [
+        (5, 7, 0, 6, 500),
+        (5, 7, 0, 7, 600),
+        (5, 7, 3, 5, 500),
+        (5, 7, 3, 6, 600),
+        // in falling order both ways are open to 6
+        (7, 5, 0, 6, 600),
+        (7, 5, 3, 6, 500),
+    ] {
+        let (fitting, leaves) = forked((0, 99), left_key, right_key);
+        let question = ask(direction, 1, time);
+        for (leaf, own) in leaves.iter().zip([500, 600]) {
+            let checked = check_fitting(question, &followed_by(&fitting, leaf), 0);
+            let due = if own == expected { found(own, 0) } else { refused(17, fitting.answer.len()) };
+            assert_eq!(checked, due, "{question:?}: {left_key}, {right_key}");
+        }
+    }
+}
+
 #[test]
 fn least_above_greatest() {
-    // in an entity's tree this means N, and the left's least key may be above the time asked
-    let l = leaf(5, 500, &[1; 32], &[2; 32]);
-    let n = node(b'N', &known(8, 8, &l), &known(9, 9, &l));
-    let g = group(&known(3, 2, &n));
-    let mut fitting = proof(&[root(&known(1, 1, &g)), g.clone(), n]);
-    let end = fitting.answer.len();
-    assert_eq!(check_fitting(ask(0, 1, 4), &fitting, 0), Ok(Verdict::NotYet));
-    fitting.answer.extend(l);
-    assert_eq!(check_fitting(ask(0, 1, 8), &fitting, 0), found(500, 0));
-    assert_eq!(check_fitting(ask(0, 1, 4), &fitting, 0), refused(18, end));
+    // in an entity's tree this means N, and each relation looks at one of the two keys
+    let (fitting, [left, _]) = forked((3, 2), 8, 9);
+    assert_eq!(check_fitting(ask(0, 1, 4), &fitting, 0), Ok(Verdict::NotYet { first: 8 }));
+    assert_eq!(check_fitting(ask(0, 1, 8), &followed_by(&fitting, &left), 0), found(500, 0));
+    assert_eq!(check_fitting(ask(3, 1, 2), &followed_by(&fitting, &left), 0), found(500, 0));
+    assert_eq!(check_fitting(ask(0, 1, 2), &up_to_g(&fitting), 0), Ok(Verdict::NotYet { first: 3 }));
+    assert_eq!(check_fitting(ask(3, 1, 3), &up_to_g(&fitting), 0), Ok(Verdict::NoneSoLate { last: 2 }));
     // in the tree of entities no entity lies between them
-    let fitting = proof(&[root(&known(3, 2, &g))]);
+    let fitting = proof(&[root(&known(3, 2, b""))]);
     for entity in 0..5 {
-        assert_eq!(check_fitting(ask(0, entity, 4), &fitting, 0), Ok(Verdict::NoEntity));
+        for direction in 0..6 {
+            assert_eq!(check_fitting(ask(direction, entity, 4), &fitting, 0), Ok(Verdict::NoEntity));
+        }
     }
 }
 
@@ -68,10 +130,12 @@ fn long_walks() {
     let strings = long_proof(DEPTH, leaf(1, 6, &sha256(&[0x49, 0]), &sha256(&[0x4f, 0, 0, 0, 0])));
     assert_eq!(strings.len(), 2 * DEPTH + 3);
     let fitting = proof(&strings);
-    assert_eq!(check_fitting(ask(0, 1, 7), &fitting, 0), found(6, 0));
-    for (direction, trace) in [(1, trace(b'B', &[e(1, 6)])), (2, trace(b'F', &[s(1, 6)]))] {
-        let traced = [&fitting.answer[..], &trace].concat();
-        assert_eq!(check(&ask(direction, 1, 7), &fitting.commitment, &traced, 128), found(6, 1));
+    for (only, time) in [(0, 7), (3, 5)] {
+        assert_eq!(check_fitting(ask(only, 1, time), &fitting, 0), found(6, 0));
+        for (way, trace) in [(1, trace(b'B', &[e(1, 6)])), (2, trace(b'F', &[s(1, 6)]))] {
+            let traced = [&fitting.answer[..], &trace].concat();
+            assert_eq!(check(&ask(only + way, 1, time), &fitting.commitment, &traced, 128), found(6, 1));
+        }
     }
     for index in [1, 17, 32, 33, DEPTH, DEPTH + 1, DEPTH + 2, 2 * DEPTH, 2 * DEPTH + 2] {
         let start = strings[..index].concat().len();
@@ -94,11 +158,11 @@ fn both_from_the_one_before(count: usize) -> Vec<Version> {
 /// A V with equal positions passes if the digest under the commitment is its own.
 #[test]
 fn both_edges_from_one_start() {
-    for (direction, count) in [(1, 2), (2, 2), (1, 9), (2, 9), (1, MOST), (2, MOST)] {
+    for (direction, count) in [(1, 2), (2, 2), (1, 9), (2, 9), (4, 9), (5, 9), (1, MOST), (2, MOST)] {
         let versions = both_from_the_one_before(count);
         let question = ask(direction, 1, 4);
         let mut fitting = proof_of_trace(&question, &versions);
-        let time = if direction == 1 { count as u64 - 1 } else { 0 };
+        let time = versions[found_place(way(&question), count)].name.time;
         assert_eq!(check_fitting(question, &fitting, 128 * count), found(time, count as u64));
         assert_eq!(check_fitting(question, &fitting, 128 * count - 1), refused(12, 0));
         // the two edges have one end, but not one kind
@@ -135,7 +199,7 @@ fn edited_traces(seed: u64, direction: u8, rows: &[usize]) {
         }
         if fits(&committed) {
             let mut fitting = proof_of_found(&asked.question, &committed);
-            fitting.answer.extend(trace_of(direction, &versions));
+            fitting.answer.extend(trace_of(way(&asked.question), &versions));
             met.add(&asked.question, &check_fitting(asked.question, &fitting, WORK));
         }
     }
@@ -146,39 +210,40 @@ fn edited_traces(seed: u64, direction: u8, rows: &[usize]) {
 #[test]
 fn edited_traces_backward() {
     edited_traces(61, 1, &[0, 16, 20, 21, 22, 23, 24]);
+    edited_traces(65, 4, &[0, 16, 20, 21, 22, 23, 24]);
 }
 
 #[test]
 fn edited_traces_forward() {
     edited_traces(62, 2, &[0, 16, 20, 21, 23, 24]);
+    edited_traces(66, 5, &[0, 16, 20, 21, 23, 24]);
 }
 
 /// Trees with arbitrary keys, and traces with arbitrary edges; then the same damaged.
 fn generated(seed: u64) {
     let mut random = Random::new(seed);
     let (mut whole, mut damaged) = (Met::default(), Met::default());
-    let mut verdicts = [0; 3];
-    for _ in 0..40_000 {
+    let mut given = Given::default();
+    for _ in 0..80_000 {
         let forged = random::forged(&mut random);
         let checked = check(&forged.question, &forged.commitment, &forged.answer, 128 * 6);
         whole.add(&forged.question, &checked);
-        match checked {
-            Ok(Verdict::NoEntity) => verdicts[0] += 1,
-            Ok(Verdict::NotYet) => verdicts[1] += 1,
-            Ok(Verdict::Found { .. }) => verdicts[2] += 1,
-            Err(_) => {}
+        if let Ok(verdict) = checked {
+            given.add(&forged.question, verdict);
         }
         let bytes = random::damaged_answer(&mut random, &forged.answer);
         damaged.add(&forged.question, &check(&forged.question, &forged.commitment, &bytes, 128 * 6));
     }
     // the proof strings always fit, and the trace decides
-    whole.exactly(0, 1_000, &[0]);
-    whole.exactly(1, 10, &[0, 19, 20, 21, 22, 23, 24]);
-    whole.exactly(2, 10, &[0, 19, 20, 21, 23, 24]);
-    damaged.exactly(0, 10, &[15, 16, 17, 18]);
-    damaged.includes(1, 10, &[12, 15, 16, 17, 18, 19, 20, 21, 22, 23, 24]);
-    damaged.includes(2, 10, &[12, 15, 16, 17, 18, 19, 20, 21, 23, 24]);
-    assert!(verdicts.iter().all(|times| *times > 1_000), "{verdicts:?}");
+    for (only, backward, forward) in [(0, 1, 2), (3, 4, 5)] {
+        whole.exactly(only, 1_000, &[0]);
+        whole.exactly(backward, 10, &[0, 19, 20, 21, 22, 23, 24]);
+        whole.exactly(forward, 10, &[0, 19, 20, 21, 23, 24]);
+        damaged.exactly(only, 10, &[15, 16, 17, 18]);
+        damaged.includes(backward, 10, &[12, 15, 16, 17, 18, 19, 20, 21, 22, 23, 24]);
+        damaged.includes(forward, 10, &[12, 15, 16, 17, 18, 19, 20, 21, 23, 24]);
+    }
+    given.each(500);
 }
 
 #[test]

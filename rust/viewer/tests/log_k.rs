@@ -15,7 +15,7 @@ fn case(log: &[Record], question: Question, length: usize, records: &[Vec<u8>], 
     let logged = Logged::new(log);
     let answer = logged.round_trip(&question, 9);
     assert_eq!(answer.len(), length, "{question:?}");
-    let letter = if question.direction == 1 { b'B' } else { b'F' };
+    let letter = if question.direction % 3 == 1 { b'B' } else { b'F' };
     assert!(records.is_empty() || answer.ends_with(&trace(letter, records)), "{question:?}");
     assert_eq!(check(&question, &logged.commitment, &answer, 128 * records.len()), Ok(verdict));
     let asked = typed(&question).expect("a known direction");
@@ -48,12 +48,55 @@ fn found() {
 }
 
 #[test]
+fn found_looking_ahead() {
+    let k = log_k();
+    case(&k, ask(3, 2, 21), 393, &[], version(30, 0));
+    case(&k, ask(4, 2, 21), 446, &[e(1, 10), e(2, 20), v(2, 30, 7, 1, 0)], version(30, 3));
+    case(&k, ask(5, 2, 21), 429, &[s(2, 30), d(1, 40, 8, 0)], version(30, 2));
+    case(&k, ask(5, 2, 20), 446, &[s(2, 20), t(2, 30, 0), d(1, 40, 8, 1)], version(20, 3));
+    case(&k, ask(3, 1, 0), 393, &[], version(10, 0));
+    case(&k, ask(5, 1, 11), 411, &[s(1, 40)], version(40, 1));
+}
+
+#[test]
 fn not_yet_and_no_entity() {
     for direction in 0..3 {
-        case(&log_k(), ask(direction, 2, 19), 219, &[], Verdict::NotYet);
+        case(&log_k(), ask(direction, 2, 19), 219, &[], Verdict::NotYet { first: 20 });
+        case(&log_k(), ask(direction, 2, 0), 219, &[], Verdict::NotYet { first: 20 });
+    }
+    for direction in 0..6 {
         case(&log_k(), ask(direction, 3, 35), 65, &[], Verdict::NoEntity);
+        case(&log_k(), ask(direction, 3, 0), 65, &[], Verdict::NoEntity);
         case(&log_k(), ask(direction, 0, 35), 65, &[], Verdict::NoEntity);
         case(&[birth(1, 10), birth(5, 20)], ask(direction, 3, 35), 162, &[], Verdict::NoEntity);
+    }
+}
+
+#[test]
+fn none_so_late() {
+    for direction in 3..6 {
+        case(&log_k(), ask(direction, 2, 31), 219, &[], Verdict::NoneSoLate { last: 30 });
+        case(&log_k(), ask(direction, 2, u64::MAX), 219, &[], Verdict::NoneSoLate { last: 30 });
+    }
+}
+
+/// The least and the greatest time that a question or a version can have.
+#[test]
+fn ends_of_time() {
+    let log = [birth(1, 0), birth(2, 5), flow(2, 1, 9, u64::MAX)];
+    for (direction, entity, time, length, verdict) in [
+        (0, 1, 0, 393, version(0, 0)),
+        (3, 1, 0, 393, version(0, 0)),
+        (3, 1, 1, 393, version(u64::MAX, 0)),
+        (0, 1, u64::MAX - 1, 393, version(0, 0)),
+        (0, 1, u64::MAX, 393, version(u64::MAX, 0)),
+        (3, 1, u64::MAX, 393, version(u64::MAX, 0)),
+        (0, 2, 0, 219, Verdict::NotYet { first: 5 }),
+        (3, 2, 0, 296, version(5, 0)),
+        (0, 2, u64::MAX, 296, version(5, 0)),
+        (3, 2, u64::MAX, 219, Verdict::NoneSoLate { last: 5 }),
+    ] {
+        case(&log, ask(direction, entity, time), length, &[], verdict);
     }
 }
 
@@ -95,7 +138,7 @@ fn records_65535_are_sound_and_one_more_is_not() {
 #[test]
 fn work_area_of_384_and_of_383() {
     let k = Logged::new(&log_k());
-    for question in [ask(1, 2, 35), ask(2, 1, 39), ask(2, 2, 20)] {
+    for question in [ask(1, 2, 35), ask(2, 1, 39), ask(2, 2, 20), ask(4, 2, 21), ask(5, 2, 20)] {
         let answer = k.round_trip(&question, 0);
         assert!(check(&question, &k.commitment, &answer, 384).is_ok());
         assert_eq!(check(&question, &k.commitment, &answer, 383), refused(12, 0));

@@ -6,7 +6,8 @@ use common::*;
 use reference::forge::{e, pieces, trace_with_count, Pieces};
 use reference::host::Host;
 use reference::sample::log_k;
-use reference::Question;
+use reference::trace::found_place;
+use reference::{Question, Way};
 use viewer::plain;
 
 /// A question about Log K and its answer in pieces, with what a fault can change.
@@ -106,7 +107,7 @@ fn cut(index: impl Fn(&Case) -> usize + 'static, bytes: usize) -> Fault {
 fn at_the_start() -> Vec<Fault> {
     let direction = |number| fault(11, move |case| case.question.direction = number);
     let commitment = |length| fault(14, move |case| case.commitment.resize(length, 7));
-    vec![direction(3), direction(255), commitment(0), commitment(31), commitment(33)]
+    vec![direction(6), direction(255), commitment(0), commitment(31), commitment(33)]
 }
 
 fn in_string(index: usize) -> Vec<Fault> {
@@ -149,37 +150,39 @@ fn in_record(index: usize) -> Vec<Fault> {
     ]
 }
 
-/// Rows 18 and 22 to 24. The last record has a kind; the found one is the last backward and the first forward.
-fn at_the_end(direction: u8) -> Vec<Fault> {
+/// Row 18.
+fn after_the_end() -> Fault {
+    fault(18, |case| case.extra.push(0))
+}
+
+/// Rows 22 to 24. The last record has a kind.
+fn of_the_trace(way: Way) -> Vec<Fault> {
     let name = fault(23, move |case| {
-        let found = if direction == 1 { case.records.len() - 1 } else { 0 };
+        let found = found_place(way, case.records.len());
         case.records[found][4] ^= 1;
     });
     let digest = fault(24, |case| case.records.last_mut().unwrap()[13] ^= 1);
-    let mut faults = vec![fault(18, |case| case.extra.push(0))];
-    if direction == 1 {
-        faults.push(fault(22, |case| case.records.insert(2, e(3, 25))));
+    match way {
+        Way::Backward => vec![fault(22, |case| case.records.insert(2, e(3, 25))), name, digest],
+        Way::Forward => vec![name, digest],
     }
-    if direction > 0 {
-        faults.extend([name, digest]);
-    }
-    faults
 }
 
 /// The faults of a case in the order of their rows.
 fn faults(case: &Case) -> Vec<Fault> {
-    let direction = case.question.direction;
     let mut faults = at_the_start();
     faults.extend((0..case.strings.len()).flat_map(in_string));
-    if case.letter.is_some() {
+    let way = case.letter.map(|_| way(&case.question));
+    if let Some(way) = way {
         faults.extend(in_header());
         for index in 0..case.records.len() {
             // no record is before the first, and forward the first has no positions
-            let without = |row: u64| index == 0 && (row == 21 || row == 20 && direction == 2);
+            let without = |row: u64| index == 0 && (row == 21 || row == 20 && way == Way::Forward);
             faults.extend(in_record(index).into_iter().filter(|fault| !without(fault.number)));
         }
     }
-    faults.extend(at_the_end(if case.letter.is_some() { direction } else { 0 }));
+    faults.push(after_the_end());
+    faults.extend(way.into_iter().flat_map(of_the_trace));
     faults
 }
 
@@ -206,12 +209,16 @@ fn alone_and_in_pairs(case: &Case, met: &mut Met) -> usize {
 fn every_row_alone_and_two_at_once() {
     let mut met = Met::default();
     let mut cases = 0;
-    for question in [ask(1, 2, 35), ask(2, 2, 20), ask(0, 2, 35), ask(0, 2, 19), ask(1, 2, 19), ask(2, 3, 0)] {
+    let before = [ask(1, 2, 35), ask(2, 2, 20), ask(0, 2, 35), ask(0, 2, 19), ask(1, 2, 19), ask(2, 3, 0)];
+    let after = [ask(4, 2, 21), ask(5, 2, 20), ask(3, 2, 21), ask(3, 2, 31), ask(4, 2, 31), ask(5, 3, 0)];
+    for question in before.into_iter().chain(after) {
         cases += alone_and_in_pairs(&Case::new(question), &mut met);
     }
-    met.exactly(0, 1, &[14, 15, 16, 17, 18]);
-    met.exactly(1, 1, &[12, 14, 15, 16, 17, 18, 19, 20, 21, 22, 23, 24]);
-    met.exactly(2, 1, &[12, 14, 15, 16, 17, 18, 19, 20, 21, 23, 24]);
-    met.exactly(3, 1, &[11]);
-    assert!(cases > 2_000, "{cases} cases");
+    for (only, backward, forward) in [(0, 1, 2), (3, 4, 5)] {
+        met.exactly(only, 1, &[14, 15, 16, 17, 18]);
+        met.exactly(backward, 1, &[12, 14, 15, 16, 17, 18, 19, 20, 21, 22, 23, 24]);
+        met.exactly(forward, 1, &[12, 14, 15, 16, 17, 18, 19, 20, 21, 23, 24]);
+    }
+    met.exactly(UNKNOWN, 1, &[11]);
+    assert!(cases > 4_000, "{cases} cases");
 }

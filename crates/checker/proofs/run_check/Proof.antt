@@ -13,20 +13,24 @@ enum-told c = search needs
 refused-run-requires : tie.Need-refused-run-requires
 refused-run-requires c κs = search needs
 
-enum-known-part : tie.Need-enum-known-part
-enum-known-part c = search needs
+enum-known-question : tie.Need-enum-known-question
+enum-known-question c = search needs
 
 run-known-requires : tie.Need-run-known-requires
 run-known-requires c κs = search needs
 
 returns : tie.Need-returns
-returns c = direction-refused _ _ _ _ _ _ _ (unknown-refused _ _ (c .before .before .before .asked-by .ensures) (c .before .enum-told .given .1) _ _) (c .refused-run .ensures)
+returns c =
+    direction-refused _ _ _ _ _ _ _ (unknown-refused _ _ _ _ (c .before .before .before .asked-by .ensures) (c .before .enum-told .given .1)) (c .refused-run .ensures)
 
 same-length : tie.Need-same-length
 same-length c = search needs
 
 returns-2 : tie.Need-returns-2
-returns-2 c = known-run _ _ _ _ _ _ _ _ (known-asks _ _ (c .before .before .before .before .before .before .before .asked-by .ensures) _ (c .before .before .before .before .before .part .given .1) _ _) (c .before .before .run-known .ensures)
+returns-2 c =
+    known-run _ _ _ _ _ _ _ _
+    (known-asks _ _ _ _ (c .before .before .before .before .before .before .before .asked-by .ensures) _ (c .before .before .before .before .before .question .given .1))
+    (c .before .before .run-known .ensures)
 
 pub run-check-spec : {M : Type 1} → statement M
 run-check-spec =
@@ -35,7 +39,7 @@ run-check-spec =
     asked-by-requires
     enum-told
     refused-run-requires
-    enum-known-part
+    enum-known-question
     run-known-requires
     returns
     same-length

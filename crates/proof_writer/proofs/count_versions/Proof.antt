@@ -4,19 +4,20 @@ use denote.Ref.{now}
 use mathlib.Core.List.{List}
 use Prim.Native.Nat.{_-_}
 use Rattle.model.specs.Graph.{VersionNode, node-at}
+use Rattle.question.specs.Directions.{relationOf}
 use Rattle.trees.specs.Tables.{Graphed}
-use Rattle.proof_writer.proofs.Counting.{CountedTo, counted-to-none, counted-slot, before-few, counted-few, counted-forward, counted-to-more, counted-all}
+use Rattle.proof_writer.proofs.Counting.{CountedTo, counted-to-none, counted-slot, counted-few, counted-forward, counted-to-more, counted-all}
 use Rattle.proof_writer.proofs.count_versions.Statement.{statement}
 use Rattle.proof_writer.proofs.count_versions.Tie as tie
 
 abbrev Inv-loop : tie.InvT-loop
-Inv-loop work entry n time l₀ count₀ i₀ l count i = (ns : List VersionNode) → Graphed work n ns → CountedTo ns (node-at ns entry .entity) (time .0) count l i
+Inv-loop work entry n relation time nearest₀ count₀ i₀ nearest count i = (ns : List VersionNode) → Graphed work n ns → CountedTo ns (node-at ns entry .entity) (relationOf relation) (time .0) count nearest i
 
 abbrev μ-loop : tie.MeasureT-loop
-μ-loop work entry n time l₀ count₀ i₀ l count i = 65535 - i
+μ-loop work entry n relation time nearest₀ count₀ i₀ nearest count i = 65535 - i
 
 loop-holds : tie.Need-loop-holds Inv-loop μ-loop
-loop-holds c = λ ns G. counted-to-none _ _ ns _ _ G (c .before .pre .1) (c .before .pre .2)
+loop-holds c = λ ns G. counted-to-none _ _ ns _ _ _ G (c .before .pre .1) (c .before .pre .2)
 
 with-version-requires : tie.Need-with-version-requires Inv-loop μ-loop
 with-version-requires c κs =
@@ -24,7 +25,7 @@ with-version-requires c κs =
     let R = s .pre .0 in
     let l = c .before .loop in
     let E = l .inv (R .ns) (R .graphed) in
-    (counted-slot (now (s .args .work)) _ (R .ns) (R .graphed) _ _ _ _ _ E (c .loop-test .taken), before-few (now (s .args .work)) _ (R .ns) (R .graphed) _ _ _ _ _ E (c .loop-test .taken))
+    counted-slot (now (s .args .work)) _ (R .ns) (R .graphed) _ _ _ _ _ _ E (c .loop-test .taken)
 
 add-count : tie.Need-add-count Inv-loop μ-loop
 add-count c =
@@ -32,7 +33,7 @@ add-count c =
     let R = s .pre .0 in
     let l = c .before .before .loop in
     let E = l .inv (R .ns) (R .graphed) in
-    let f = counted-few (now (s .args .work)) _ (R .ns) (R .graphed) _ _ _ _ _ E (c .before .loop-test .taken) in
+    let f = counted-few (now (s .args .work)) _ (R .ns) (R .graphed) _ _ _ _ _ _ E (c .before .loop-test .taken) in
     search needs
 
 get-next-requires : tie.Need-get-next-requires Inv-loop μ-loop
@@ -41,7 +42,7 @@ get-next-requires c κs =
     let R = s .pre .0 in
     let l = c .before .before .loop in
     let E = l .inv (R .ns) (R .graphed) in
-    counted-slot (now (s .args .work)) _ (R .ns) (R .graphed) _ _ _ _ _ E (c .before .loop-test .taken)
+    counted-slot (now (s .args .work)) _ (R .ns) (R .graphed) _ _ _ _ _ _ E (c .before .loop-test .taken)
 
 cast-i : tie.Need-cast-i Inv-loop μ-loop
 cast-i c = search needs
@@ -52,19 +53,19 @@ loop-less c =
     let R = s .pre .0 in
     let l = c .before .before .before .loop in
     let E = l .inv (R .ns) (R .graphed) in
-    let g = counted-forward (now (s .args .work)) _ (R .ns) (R .graphed) _ _ _ _ _ E (c .before .before .loop-test .taken) _ (c .get-next .ensures) in
+    let g = counted-forward (now (s .args .work)) _ (R .ns) (R .graphed) _ _ _ _ _ _ E (c .before .before .loop-test .taken) _ (c .get-next .ensures) in
     omega arith
 
 loop-again : tie.Need-loop-again Inv-loop μ-loop
 loop-again c =
     let s = c .before .before .before .before .before in
     let l = c .before .before .before .loop in
-    λ ns G. counted-to-more (now (s .args .work)) _ ns G _ _ _ _ _ (l .inv ns G) (c .before .before .loop-test .taken) _ (c .before .with-version .ensures) _ (c .get-next .ensures)
+    λ ns G. counted-to-more (now (s .args .work)) _ ns G _ _ _ _ _ _ (l .inv ns G) (c .before .before .loop-test .taken) _ (c .before .with-version .ensures) _ (c .get-next .ensures)
 
 returns : tie.Need-returns Inv-loop μ-loop
 returns c =
     let s = c .before .before .before in
-    λ ns G. counted-all (now (s .args .work)) _ ns G _ _ _ _ _ (c .before .loop .inv ns G) (c .loop-test .left)
+    λ ns G. counted-all (now (s .args .work)) _ ns G _ _ _ _ _ _ (c .before .loop .inv ns G) (c .loop-test .left)
 
 pub count-versions-spec : {M : Type 1} → statement M
 count-versions-spec =

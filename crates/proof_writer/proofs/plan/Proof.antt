@@ -16,16 +16,16 @@ seek-entity-requires c κs =
 enum-known-target : tie.Need-enum-known-target
 enum-known-target c = search needs
 
-mul-t18 : tie.Need-mul-t18
-mul-t18 c =
+mul-t17 : tie.Need-mul-t17
+mul-t17 c =
     let s = c .before .before .before .before .before .before .before .before .before .before in
     let stored = c .before .before .before .before .before .before .before .put-entity-leaves .ensures in
     let sought = c .before .before .before .seek-entity .ensures in
     let few = absent-shallow (now (s .args .work)) _ _ _ (s .pre .0) stored _ _ sought _ _ (c .before .target .given .1) in
     search needs
 
-add-t19 : tie.Need-add-t19
-add-t19 c =
+add-t18 : tie.Need-add-t18
+add-t18 c =
     let s = c .before .before .before .before .before .before .before .before .before .before in
     let stored = c .before .before .before .before .before .before .before .put-entity-leaves .ensures in
     let sought = c .before .before .before .seek-entity .ensures in
@@ -50,7 +50,7 @@ returns c =
     let s = c .before .before .before .before .before .before .before .before .before .before in
     let stored = c .before .before .before .before .before .before .before .put-entity-leaves .ensures in
     let sought = c .before .before .before .seek-entity .ensures in
-    (planned-absent (now (s .args .work)) _ _ _ (s .pre .0) stored _ _ sought _ _ (c .before .target .given .1) _ _ refl, plan-kept (now (s .args .work)) _ _ _ (s .pre .0) stored)
+    (planned-absent (now (s .args .work)) _ _ _ (s .pre .0) stored _ _ sought _ _ (c .before .target .given .1) _ refl, plan-kept (now (s .args .work)) _ _ _ (s .pre .0) stored)
 
 same-length-2 : tie.Need-same-length-2
 same-length-2 c = search needs
@@ -60,7 +60,7 @@ returns-2 c =
     let s = c .before .before .before .before .before .before .before .before .before .before .before .before in
     let stored = c .before .before .before .before .before .before .before .before .before .put-entity-leaves .ensures in
     let sought = c .before .before .before .before .before .seek-entity .ensures in
-    (planned-present (now (s .args .work)) _ _ _ (s .pre .0) stored _ _ sought _ _ (c .before .before .before .target2 .given .1) _ _ (c .plan-entity .ensures), plan-kept (now (s .args .work)) _ _ _ (s .pre .0) stored)
+    (planned-present (now (s .args .work)) _ _ _ (s .pre .0) stored _ _ sought _ _ (c .before .before .before .target2 .given .1) _ (c .plan-entity .ensures), plan-kept (now (s .args .work)) _ _ _ (s .pre .0) stored)
 
 pub plan-spec : {M : Type 1} → statement M
 plan-spec =
@@ -69,8 +69,8 @@ plan-spec =
     put-entity-leaves-requires
     seek-entity-requires
     enum-known-target
-    mul-t18
-    add-t19
+    mul-t17
+    add-t18
     enum-known-target-2
     plan-entity-requires
     same-length

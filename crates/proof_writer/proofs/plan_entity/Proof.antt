@@ -2,7 +2,7 @@ use borrow.Author.Needs.{needs}
 use native.Mathlib.Omega.{arith}
 use denote.Ref.{now}
 use mathlib.Core.Path.{refl}
-use Rattle.proof_writer.proofs.Planning.{entity-version, first-enters, first-entry, plan-not-yet, plan-found}
+use Rattle.proof_writer.proofs.Planning.{entity-version, first-enters, first-entry, index-inside, plan-unmet, plan-found}
 use Rattle.proof_writer.proofs.plan_entity.Statement.{statement}
 use Rattle.proof_writer.proofs.plan_entity.Tie as tie
 
@@ -18,27 +18,21 @@ mul-length c = search needs
 add-length : tie.Need-add-length
 add-length c = search needs
 
-returns : tie.Need-returns
-returns c =
-    let s = c .before .before .before .before .before .before in
-    λ ns G R. plan-not-yet (now (s .args .work)) ns _ _ _ R _ (first-entry _ _ _ (s .pre .0) _ (c .before .before .before .before .first-version .ensures) ns G) _ (c .before .before .before .count-versions .ensures ns G) _ refl (c .if1 .taken)
+enum-told : tie.Need-enum-told
+enum-told c = search needs
 
-sub-index : tie.Need-sub-index
-sub-index c =
-    let s = c .before .before .before .before .before .before .before in
-    let R = s .pre .0 .graph in
-    let some = c .before .before .before .before .count-versions .ensures (R .ns) (R .graphed) .some-version in
-    search needs
+enum-known-nearest : tie.Need-enum-known-nearest
+enum-known-nearest c = search needs
 
 leaf-depth-requires : tie.Need-leaf-depth-requires
 leaf-depth-requires c κs =
     let s = c .before .before .before .before .before .before .before in
     let R = s .pre .0 .graph in
     let e = c .before .before .before .before .count-versions .ensures (R .ns) (R .graphed) in
-    (omega (arith, e .number, e .some-version, e .counted .most, c .before .if1 .left), omega (arith, e .few, R .graphed .digested .few))
+    (index-inside _ _ _ _ _ e _ _ (c .before .nearest .given .1), omega (arith, e .few, R .graphed .digested .few))
 
-mul-t11 : tie.Need-mul-t11
-mul-t11 c =
+mul-t15 : tie.Need-mul-t15
+mul-t15 c =
     let s = c .before .before .before .before .before .before .before .before in
     let R = s .pre .0 .graph in
     let e = c .before .before .before .before .before .count-versions .ensures (R .ns) (R .graphed) in
@@ -47,8 +41,8 @@ mul-t11 c =
     let most = R .graphed .digested .few in
     search needs
 
-add-t13 : tie.Need-add-t13
-add-t13 c =
+add-t16 : tie.Need-add-t16
+add-t16 c =
     let s = c .before .before .before .before .before .before .before .before in
     let R = s .pre .0 .graph in
     let e = c .before .before .before .before .before .count-versions .ensures (R .ns) (R .graphed) in
@@ -57,8 +51,8 @@ add-t13 c =
     let most = R .graphed .digested .few in
     search needs
 
-add-t14 : tie.Need-add-t14
-add-t14 c =
+add-t17 : tie.Need-add-t17
+add-t17 c =
     let s = c .before .before .before .before .before .before .before .before in
     let R = s .pre .0 .graph in
     let e = c .before .before .before .before .before .count-versions .ensures (R .ns) (R .graphed) in
@@ -66,6 +60,11 @@ add-t14 c =
     let few = e .few in
     let most = R .graphed .digested .few in
     search needs
+
+returns : tie.Need-returns
+returns c =
+    let s = c .before .before .before .before .before .before in
+    λ ns G R. plan-unmet (now (s .args .work)) ns _ _ R _ (first-entry _ _ _ (s .pre .0) _ (c .before .before .before .before .first-version .ensures) ns G) _ (c .before .before .before .count-versions .ensures ns G) _ refl (c .enum-told .given .1)
 
 returns-2 : tie.Need-returns-2
 returns-2 c =
@@ -75,7 +74,7 @@ returns-2 c =
     let d = c .leaf-depth .ensures .shallow in
     let few = e .few in
     let most = R .graphed .digested .few in
-    λ ns G H. plan-found (now (s .args .work)) ns _ _ _ H _ (first-entry _ _ _ (s .pre .0) _ (c .before .before .before .before .before .before .first-version .ensures) ns G) _ (c .before .before .before .before .before .count-versions .ensures ns G) _ _ _ (c .before .before .if1 .left) refl (c .leaf-depth .ensures) (omega arith) refl
+    λ ns G H. plan-found (now (s .args .work)) ns _ _ H _ (first-entry _ _ _ (s .pre .0) _ (c .before .before .before .before .before .before .first-version .ensures) ns G) _ (c .before .before .before .before .before .count-versions .ensures ns G) _ _ _ _ (c .before .before .nearest .given .1) (c .leaf-depth .ensures) (omega arith) refl
 
 pub plan-entity-spec : {M : Type 1} → statement M
 plan-entity-spec =
@@ -85,10 +84,11 @@ plan-entity-spec =
     count-versions-requires
     mul-length
     add-length
-    returns
-    sub-index
+    enum-told
+    enum-known-nearest
     leaf-depth-requires
-    mul-t11
-    add-t13
-    add-t14
+    mul-t15
+    add-t16
+    add-t17
+    returns
     returns-2)

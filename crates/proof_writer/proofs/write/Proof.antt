@@ -3,7 +3,7 @@ use denote.Ref.{now}
 use mathlib.Core.List.{[], _∷_}
 use Rattle.graph.specs.Table.{columns}
 use Rattle.graph.proofs.Slots.{kept-none}
-use Rattle.proof_writer.proofs.Writing.{no-entity-ready, not-yet-ready, found-ready, no-entity-done, not-yet-done, found-done}
+use Rattle.proof_writer.proofs.Writing.{no-entity-ready, unmet-ready, found-ready, no-entity-done, unmet-done, found-done}
 use Rattle.proof_writer.proofs.write.Statement.{statement}
 use Rattle.proof_writer.proofs.write.Tie as tie
 
@@ -21,7 +21,7 @@ enum-known-plan-2 c = search needs
 put-walk-requires : tie.Need-put-walk-requires
 put-walk-requires c κs =
     let s = c .before .before .before .before .before .before .before in
-    (not-yet-ready (now (s .args .work)) _ _ _ _ _ (c .before .before .before .plan2 .given .1) (s .pre .0 .0) _ (s .pre .0 .1), s .pre .1)
+    (unmet-ready (now (s .args .work)) _ _ _ _ _ (c .before .before .before .plan2 .given .1) (s .pre .0 .0) _ (s .pre .0 .1), s .pre .1)
 
 enum-known-plan-3 : tie.Need-enum-known-plan-3
 enum-known-plan-3 c = search needs
@@ -52,7 +52,7 @@ returns-2 : tie.Need-returns-2
 returns-2 c =
     let s = c .before .before .before .before .before .before .before .before .before .before .before .before in
     let r = c .before .before .before .before .put-walk .ensures in
-    (not-yet-done (now (s .args .work)) _ _ _ _ _ (c .before .before .before .before .before .before .before .before .plan2 .given .1) _ (now (s .args .out)) _ (r .0), r .1)
+    (unmet-done (now (s .args .work)) _ _ _ _ _ (c .before .before .before .before .before .before .before .before .plan2 .given .1) _ (now (s .args .out)) _ (r .0), r .1)
 
 same-length-5 : tie.Need-same-length-5
 same-length-5 c = search needs

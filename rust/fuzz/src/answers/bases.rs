@@ -6,8 +6,9 @@ use reference::host::Host;
 use reference::log::MOST_RECORDS;
 use reference::random::{self, Random};
 use reference::sha256::sha256;
-use reference::{Question, BACKWARD, FORWARD};
+use reference::{Question, Way};
 
+use crate::answers::defined;
 use crate::answers::posed::Posed;
 use crate::logs;
 
@@ -27,7 +28,7 @@ pub fn honest(random: &mut Random) -> Posed {
     let host = Host::new(&records);
     let mut answered = || {
         let question = random::question(random, &records);
-        (question, pieces(&host.answer(&question)))
+        (question, pieces(&defined(&host, &question)))
     };
     let beside = Some(answered().1);
     let mut last = answered();
@@ -46,18 +47,19 @@ fn forged(random: &mut Random) -> Posed {
     Posed { question, commitment: commitment.to_vec(), pieces: pieces(&answer), beside: None }
 }
 
-/// A deep walk to a version without edges.
+/// A deep walk to a version without edges; at or after, all of it is opened at 5 alone.
 fn long(random: &mut Random) -> Posed {
-    let question = Question { direction: random.below(3) as u8, entity: 1, time: 5 + random.below(3) };
+    let time = if random.once_in(2) { 5 } else { 5 + random.below(3) };
+    let question = Question { direction: random::known_direction(random), entity: 1, time };
     let time = random.below(9);
     let depth = if random.once_in(100) { random.index(2_000) } else { random.index(40) };
     let (incoming, outgoing) = (sha256(&[0x49, 0]), sha256(&[0x4f, 0, 0, 0, 0]));
     let strings = long_proof(depth, leaf(1, time, &incoming, &outgoing));
     let commitment = sha256(&strings[0]).to_vec();
-    let trace = match question.direction {
-        BACKWARD => trace(b'B', &[e(1, time)]),
-        FORWARD => trace(b'F', &[s(1, time)]),
-        _ => Vec::new(),
+    let trace = match question.way() {
+        Some(Way::Backward) => trace(b'B', &[e(1, time)]),
+        Some(Way::Forward) => trace(b'F', &[s(1, time)]),
+        None => Vec::new(),
     };
     Posed { question, commitment, pieces: Pieces { strings, ..pieces(&trace) }, beside: None }
 }

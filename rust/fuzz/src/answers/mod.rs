@@ -49,7 +49,7 @@ fn change(random: &mut Random, posed: &mut Posed) {
 
 fn edit_question(random: &mut Random, question: &mut Question) {
     match random.below(3) {
-        0 => question.direction = if random.once_in(2) { random.byte() } else { random.below(3) as u8 },
+        0 => question.direction = if random.once_in(2) { random.byte() } else { random::known_direction(random) },
         1 => question.entity = near(random, u64::from(question.entity)) as u32,
         _ => question.time = near(random, question.time),
     }
@@ -90,5 +90,11 @@ fn work(pieces: &Pieces) -> usize {
 
 /// The length of the defined answer about a sound log.
 pub fn length(question: &Question, records: &[Record]) -> usize {
-    Host::new(records).answer(question).len()
+    defined(&Host::new(records), question).len()
+}
+
+/// The defined answer; for an unknown direction, which has none, that of the version alone.
+fn defined(host: &Host, question: &Question) -> Vec<u8> {
+    let direction = question.asked().map_or(0, |_| question.direction);
+    host.answer(&Question { direction, ..*question })
 }

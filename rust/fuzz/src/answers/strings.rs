@@ -85,6 +85,7 @@ mod tests {
     use super::*;
     use crate::answers::bases;
     use reference::check::check;
+    use reference::Relation;
 
     /// The strings above follow: whatever a leaf holds, its proof fits, and the verdict gives the leaf's time.
     #[test]
@@ -93,7 +94,8 @@ mod tests {
         let mut leaves = 0;
         while leaves < 50 {
             let mut posed = bases::honest(&mut random);
-            posed.question.direction = 0;
+            let after = posed.question.asked().is_some_and(|asked| asked.relation == Relation::AtOrAfter);
+            posed.question.direction = if after { 3 } else { 0 };
             let before = posed.pieces.strings.clone();
             let strings = &mut posed.pieces.strings;
             let last = strings.len() - 1;

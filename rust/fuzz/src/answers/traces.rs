@@ -5,16 +5,21 @@ use reference::forge::{records_of, trace_with_count, versions_of};
 use reference::graph::Version;
 use reference::random::Random;
 use reference::trace::{record_width, trace_letter};
-use reference::{BACKWARD, FORWARD};
+use reference::Way;
 
 use crate::answers::posed::Posed;
 
+/// The way of the trace that is asked for; any, if none is.
+fn way(posed: &Posed) -> Way {
+    posed.question.way().unwrap_or(Way::Forward)
+}
+
 /// One change of a trace that has records.
 pub fn edit_trace(random: &mut Random, posed: &mut Posed) {
-    let direction = posed.question.direction;
+    let letter = trace_letter(way(posed));
     let trace = &mut posed.pieces;
     match random.below(8) {
-        0 => trace.header = Some(trace_with_count(trace_letter(direction), any_count(random, trace.records.len()), &[])),
+        0 => trace.header = Some(trace_with_count(letter, any_count(random, trace.records.len()), &[])),
         1 => trace.header = Some(trace_with_count(b"BFR"[random.index(3)], trace.records.len() as u32, &[])),
         2 => edit_letter(random, &mut trace.records),
         3 => edit_bytes(random, &mut trace.records),
@@ -41,16 +46,16 @@ fn edit_shown(random: &mut Random, posed: &mut Posed) {
     if !posed.pieces.records.iter().all(|record| is_whole(record)) {
         return edit_bytes(random, &mut posed.pieces.records);
     }
-    let direction = posed.question.direction;
+    let way = way(posed);
     let shown = versions_of(&posed.pieces.records);
     let mut versions = edited(random, &shown);
     for _ in 0..3 {
-        if !letters_are_due(direction, &versions) {
+        if !letters_are_due(way, &versions) {
             versions = edited(random, &shown);
         }
     }
-    posed.pieces.records = records_of(direction, &versions);
-    posed.pieces.header = Some(trace_with_count(trace_letter(direction), versions.len() as u32, &[]));
+    posed.pieces.records = records_of(way, &versions);
+    posed.pieces.header = Some(trace_with_count(trace_letter(way), versions.len() as u32, &[]));
 }
 
 fn edited(random: &mut Random, shown: &[Version]) -> Vec<Version> {
@@ -62,11 +67,11 @@ fn edited(random: &mut Random, shown: &[Version]) -> Vec<Version> {
 }
 
 /// The records of these versions do not meet row 16, which would hide what comes after it.
-fn letters_are_due(direction: u8, versions: &[Version]) -> bool {
+fn letters_are_due(way: Way, versions: &[Version]) -> bool {
     versions.iter().enumerate().all(|(own, version)| match (version.temporal, version.dependency) {
-        (None, None) => direction == BACKWARD || own == 0,
-        (Some(_), Some(_)) => direction == BACKWARD || own > 0,
-        _ => direction == FORWARD && own > 0,
+        (None, None) => way == Way::Backward || own == 0,
+        (Some(_), Some(_)) => way == Way::Backward || own > 0,
+        _ => way == Way::Forward && own > 0,
     })
 }
 

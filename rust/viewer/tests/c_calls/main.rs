@@ -44,11 +44,13 @@ fn run(source: &str) -> String {
 
 #[test]
 fn the_example_goes_from_a_log_to_a_checked_history() {
-    let expected = "answer of 446 bytes\n\
-                    verdict 3, time 30, records 3\n\
+    let expected = "what led to the version of 2 that stood at 35? answer of 446 bytes\n\
+                    found at 30, 3 records\n\
                     E 1 at 10\n\
                     E 2 at 20\n\
-                    V 2 at 30, kind 7, from record 1, from record 0\n";
+                    V 2 at 30, kind 7, from record 1, from record 0\n\
+                    what came of the first version of 2 at or after 31? answer of 219 bytes\n\
+                    none so late: the last version is at 30\n";
     assert_eq!(run("include/example.c"), expected);
 }
 

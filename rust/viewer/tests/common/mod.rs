@@ -8,7 +8,7 @@ use reference::host::Host;
 use reference::log::{write, Record};
 use reference::random::{self, Random};
 use reference::sha256::Digest;
-use reference::Question;
+use reference::{Question, Way, DIRECTIONS};
 use std::ops::Range;
 use viewer::{plain, Direction, Refusal, Verdict};
 
@@ -91,9 +91,10 @@ fn check_unknown(question: &Question, commitment: &[u8], answer: &[u8], work: us
 
 fn verdict(accepted: Accepted) -> Verdict {
     match accepted.verdict {
-        rows::Verdict::NoEntity => Verdict::NoEntity,
-        rows::Verdict::NotYet => Verdict::NotYet,
-        rows::Verdict::Found { time, count } => Verdict::Found { time, count },
+        reference::Verdict::NoEntity => Verdict::NoEntity,
+        reference::Verdict::NotYet { first } => Verdict::NotYet { first },
+        reference::Verdict::NoneSoLate { last } => Verdict::NoneSoLate { last },
+        reference::Verdict::Found { time, count } => Verdict::Found { time, count },
     }
 }
 
@@ -212,16 +213,19 @@ pub fn any_traced(random: &mut Random, direction: u8, most: usize) -> Traced {
     }
 }
 
-/// How often each row was met (0: accepted), by direction; all directions above 2 are counted as 3.
+/// Where directions above 5 are counted.
+pub const UNKNOWN: usize = DIRECTIONS as usize;
+
+/// How often each row was met (0: accepted), by direction.
 #[derive(Default)]
 pub struct Met {
-    rows: [[usize; 25]; 4],
+    rows: [[usize; 25]; UNKNOWN + 1],
 }
 
 impl Met {
     pub fn add<T>(&mut self, question: &Question, result: &Result<T, Refusal>) {
         let number = result.as_ref().err().map_or(0, |refusal| refusal.number);
-        self.rows[question.direction.min(3) as usize][number as usize] += 1;
+        self.rows[UNKNOWN.min(question.direction.into())][number as usize] += 1;
     }
 
     /// In a direction each of these rows was met so many times at least.
@@ -243,4 +247,37 @@ impl Met {
     pub fn total(&self) -> usize {
         self.rows.iter().flatten().sum()
     }
+}
+
+/// How often each verdict was given, by direction: no entity, not yet, none so late, found.
+#[derive(Default)]
+pub struct Given {
+    verdicts: [[usize; 4]; DIRECTIONS as usize],
+}
+
+impl Given {
+    pub fn add(&mut self, question: &Question, verdict: Verdict) {
+        let place = match verdict {
+            Verdict::NoEntity => 0,
+            Verdict::NotYet { .. } => 1,
+            Verdict::NoneSoLate { .. } => 2,
+            Verdict::Found { .. } => 3,
+        };
+        self.verdicts[question.direction as usize][place] += 1;
+    }
+
+    /// In every direction each verdict was given so many times at least, but for the stop of the other relation, which was never.
+    pub fn each(&self, least: usize) {
+        for (direction, given) in self.verdicts.iter().enumerate() {
+            let never = if direction < 3 { 2 } else { 1 };
+            for (place, times) in given.iter().enumerate() {
+                assert!(if place == never { *times == 0 } else { *times >= least }, "direction {direction}: {given:?}");
+            }
+        }
+    }
+}
+
+/// The way of a question with a trace.
+pub fn way(question: &Question) -> Way {
+    question.way().expect("a question with a trace")
 }

@@ -176,12 +176,13 @@ fn anchor(heading: &str) -> String {
 
 /// The links of a document that lead nowhere.
 fn lost_links(repository: &Repository, path: &str) -> Vec<String> {
-    let folder = path.rsplit_once('/').map_or("", |(folder, _)| folder);
+    let above = |path: &str| path.rsplit_once('/').map_or(String::new(), |(folder, _)| folder.to_string());
+    let folder = above(path);
     let lost = |link: &str| {
         let (file, place) = link.split_once('#').unwrap_or((link, ""));
         let target = match (file, file.strip_prefix("../")) {
             ("", _) => path.to_string(),
-            (_, Some(above)) => above.to_string(),
+            (_, Some(file)) => format!("{}/{file}", above(&folder)).trim_matches('/').to_string(),
             _ => format!("{folder}/{file}").trim_matches('/').to_string(),
         };
         let is_there = repository.below(&target).next().is_some();
