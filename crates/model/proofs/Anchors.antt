@@ -13,7 +13,7 @@ use Rattle.model.specs.Log.{Record}
 use Rattle.model.specs.Graph.{VersionNode, InEdge, temporal, dependency, node-at, graph, NamedEdge, CausalPath, stay, step, edges-on}
 use Rattle.model.specs.Digest.{letter-I, letter-O, links-string, incoming-string, outgoing-string, incoming-strings, outgoing-strings, incoming-string-of, outgoing-string-of}
 use Rattle.model.specs.Accumulator.{letter-L, letter-N, letter-G, letter-P, letter-R, Header, strings-of, hashed-in-building}
-use Rattle.model.specs.Question.{at-or-before, backward, trace-of, Question, asked, question, no-entity, Verdict, count}
+use Rattle.model.specs.Question.{at-or-before, at-or-after, backward, version-only, trace-of, Question, asked, question, no-entity, Verdict, count}
 use Rattle.model.specs.Answer.{log-header, log-commitment, log-answer, log-hashed}
 use Rattle.model.specs.CheckRows.{enough, Accepted, run, path-strings, trace-strings, hashed-in-check}
 use Rattle.model.specs.Calls.{verdict-of}
@@ -22,6 +22,7 @@ use Rattle.model.proofs.Outcomes.{refuse≢ok, ok-inj}
 use Rattle.model.proofs.Lists.{_among_, among-two}
 use Rattle.model.proofs.Widths.{letters-of}
 use Rattle.model.proofs.LogGraph.{well-formed}
+use Rattle.model.proofs.Stops.{StopsWith, stop-gives}
 use Rattle.model.proofs.Verdicts.{true-verdict-only}
 use Rattle.model.proofs.Truth.{found-is}
 use Rattle.model.proofs.Showing.{version-on, trace-shows}
@@ -77,6 +78,16 @@ soundness-at-K = soundness (log-bytes K) K K-sound
 pub completeness-at-K : (direction s t : ℕ) (q : Question) → question direction s t ≡ ok q → (work : ℕ)
     → verdict-of (run direction s t (log-commitment K) (log-answer K q) work) ≡ (enough (count (true-verdict (graph K) q)) work >>= λ _. ok (true-verdict (graph K) q))
 completeness-at-K = completeness (log-bytes K) K K-sound
+
+-- ---- where the walk stops, at K: 2 before its first version and after its last
+
+pub stops-back-at-K : StopsWith (graph K) (asked at-or-before version-only 2 19) 20
+unfolding computed
+stops-back-at-K = stop-gives (log-bytes K) K K-sound (asked at-or-before version-only 2 19) 20 refl
+
+pub stops-ahead-at-K : StopsWith (graph K) (asked at-or-after version-only 2 31) 30
+unfolding computed
+stops-ahead-at-K = stop-gives (log-bytes K) K K-sound (asked at-or-after version-only 2 31) 30 refl
 
 -- ---- each part of `Faithful`, at K's first question
 

@@ -1,15 +1,18 @@
 -- Where the walk through a sound log's trees stops in the tree of the entity asked: where no version of it meets the time, and the key that
 -- is handed upward is the time of the entity's first version, or of its last. Assumes nothing.
 use mathlib.Core.Path.{_≡_, refl, sym, ap, _∙_, subst}
-use Prim.Native.Nat.{ℕ}
+use Prim.Native.Nat.{ℕ, zero, suc}
 use native.Mathlib.Omega.{arith}
+use mathlib.Core.Bool.{true}
 use mathlib.Core.List.{List}
+use Rattle.model.specs.Result.{ok}
 use Rattle.model.specs.Numbers.{Bytes}
 use Rattle.model.specs.Log.{Record}
 use Rattle.model.specs.Graph.{VersionNode, node-at, graph}
-use Rattle.model.specs.Accumulator.{VersionLeaf}
-use Rattle.model.specs.Question.{Relation, at-or-before, at-or-after, Part, Question, Stop, no-entity, unmet, SearchEnd, Verdict}
+use Rattle.model.specs.Accumulator.{Subtree, VersionLeaf}
+use Rattle.model.specs.Question.{Relation, at-or-before, at-or-after, Part, Question, Stop, no-entity, not-yet, none-so-late, unmet, SearchEnd, by-time, Verdict}
 use Rattle.model.specs.Answer.{proof, log-header}
+use Rattle.model.specs.CheckRows.{stopped, check-tree, check-versions}
 use Rattle.model.specs.Exact.{IsSought, IsOutermost, TrueVerdict, is-found, is-no-entity, is-unmet, true-verdict, SoundLog}
 use Rattle.model.proofs.LogGraph.{well-formed}
 use Rattle.model.proofs.Verdicts.{true-verdict-holds, true-verdict-only}
@@ -58,3 +61,22 @@ module _ (log : Bytes) (rs : List Record) (l : SoundLog log rs) (q : Question) (
       (walk-verdict (graph rs) w q
       ∙ sym (true-verdict-only (graph rs) w q _ (is-unmet (s .version) (s .outermost) (s .none-meets)))
       ∙ ap (λ (k : ℕ). Verdict.not-found (unmet (q .relation) k)) (s .its-time))
+
+-- ---- of any bytes
+
+-- at whatever subtree the walk has come to, under whatever commitment: the key handed upward is the one known there
+pub stop-known : (r : Relation) (t f : ℕ) (k : Subtree) (pos : ℕ) (x : Bytes) → by-time r t .stops k ≡ true
+    → check-versions r t f k pos x ≡ ok (stopped (SearchEnd.not-found (by-time r t .stop-at k)) pos x)
+unfolding check-versions check-tree
+stop-known r t zero k pos x h = simp (h)
+stop-known r t (suc f) k pos x h = simp (h)
+
+-- both relations, of keys that no log's tree has: a least above the greatest
+pub stop-keys : (digest : Bytes) (f pos : ℕ) (x : Bytes)
+    → (check-versions at-or-before 4 f (record { least = 8; greatest = 3; digest = digest }) pos x ≡ ok (stopped (SearchEnd.not-found (not-yet 8)) pos x))
+    × (check-versions at-or-after 4 f (record { least = 8; greatest = 3; digest = digest }) pos x ≡ ok (stopped (SearchEnd.not-found (none-so-late 3)) pos x))
+unfolding by-time
+stop-keys digest f pos x = (
+  stop-known at-or-before 4 f (record { least = 8; greatest = 3; digest = digest }) pos x refl,
+  stop-known at-or-after 4 f (record { least = 8; greatest = 3; digest = digest }) pos x refl,
+)

@@ -1,5 +1,5 @@
 -- The rules of the walks: where one stops, and the side on which it goes on. Assumes nothing.
-use mathlib.Core.Path.{_≡_, refl, sym, ap, _∙_}
+use mathlib.Core.Path.{_≡_, sym, ap, _∙_}
 use mathlib.Core.Bool.{Bool, true, false}
 use Prim.Native.Nat.{ℕ, _+_}
 use borrow.Author.Tests.{le-leb, lt-leb, ltb-true, ltb-false}
@@ -12,7 +12,7 @@ use Rattle.question.specs.declared.TimeKey.{TimeKey}
 use Rattle.question.specs.declared.Relation.{Relation}
 use Rattle.question.specs.declared.Relation.the-variants.{AtOrBefore, AtOrAfter}
 use Rattle.question.specs.Directions.{relationOf}
-use Rattle.proof_reader.specs.declared.Stop.the-variants.{NoEntity, NotYet, NoneSoLate}
+use Rattle.proof_reader.specs.declared.Stop.the-variants.{NotYet, NoneSoLate}
 use Rattle.proof_reader.specs.Walks.{side-of, stopOf}
 
 module _ (answer : Bytes) (tree s least : ℕ) (l : least ≡ field 8 answer tree) (b : Bool) (below : b ≡ ltb s least) where
@@ -24,11 +24,6 @@ module _ (answer : Bytes) (tree s least : ℕ) (l : least ≡ field 8 answer tre
       → r ≡ by-entity s .stops (subtree-in answer tree)
   unfolding by-entity subtree-in
   above-greatest e greatest g r above = simp (sym l, sym below ∙ e, sym g) above
-
--- no entity has a key to hand on
-pub no-entity-stop : (answer : Bytes) (tree s : ℕ) → NoEntity ≡ stopOf (by-entity s .stop-at (subtree-in answer tree))
-unfolding by-entity stopOf
-no-entity-stop answer tree s = refl
 
 -- by the relation
 abbrev rules : Relation → ℕ → Descent
