@@ -19,7 +19,7 @@ use Rattle.model.proofs.Outcomes.{by-test, cond-T, cond-F}
 use Rattle.model.proofs.Strings.{sum}
 use Rattle.model.proofs.Lists.{_among_, Up, up-head, up-tail, rising-up, of-map, counting-length, counting-bounds}
 use Rattle.model.proofs.Trees.{flat}
-use Rattle.model.proofs.Truth.{groups, groups-flat, group-flat}
+use Rattle.model.proofs.Truth.{leaves-count, groups, groups-flat, group-flat}
 use Rattle.model.proofs.LogGraph.{well-formed, versions-are-records}
 
 -- ---- sums
@@ -104,10 +104,6 @@ module _ (G : List VersionNode) (w : WellFormed G) where
       let b = counting-bounds 0 (length G) (r .0) (r .1) .1 in
       subst (λ (z : VersionLeaf). z .leaf .entity among entities G) (sym (r .2)) (w .entered (r .0) (omega arith))
 
-  leaves-count : length (version-leaves G) ≡ length G
-  unfolding version-leaves
-  leaves-count = length-map (counting 0 (length G)) _ ∙ counting-length 0 (length G)
-
   -- the strings of all the entities' own trees
   inside-count : (es : List ℕ) → ((e : ℕ) → e among es → e among entities G)
       → sum (map (λ (g : Group). length (strings-of versions-layout (λ _. []) (g .versions))) (map (group (version-leaves G)) es)) + length es
@@ -137,7 +133,7 @@ module _ (G : List VersionNode) (w : WellFormed G) where
       let m = length-map (entities G) (group (version-leaves G)) in
       let i = inside-count (entities G) (λ e m. m) in
       let p = parted (entities G) (rising-up (w .entities-rise)) (version-leaves G) leaf-entities in
-      let v = leaves-count in
+      let v = leaves-count G w in
       omega arith
 
   pub building-count : (h : Header) → length (hashed-in-building h G) ≡ 4 * length G + length (entities G)

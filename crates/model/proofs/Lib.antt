@@ -31,6 +31,7 @@ pub mod Truth
 pub mod SoundnessOverGraphs
 -- the defined answer is accepted
 pub mod Open
+pub mod Preorder
 pub mod TraceWriting
 pub mod DefinedTrace
 pub mod CompletenessOverGraphs

@@ -14,12 +14,12 @@ use Rattle.model.specs.Numbers.{Bytes, H, joined}
 use Rattle.model.specs.Log.{Record, birth, flow, BIRTH, FLOW, record-limit, last-time, births}
 use Rattle.model.specs.Graph.{InEdge, temporal, dependency, VersionNode, latest-from, latest, made, grow, graph}
 use Rattle.model.specs.Digest.{letter-I, letter-O, links-string, incoming-string, outgoing-string, incoming-string-of, outgoing-string-of, incoming-strings, outgoing-strings}
-use Rattle.model.specs.Accumulator.{letter-L, letter-N, letter-G, letter-P, letter-R, branch-string, parent, doubled-below, largest-power-below, halved, tree, subtree, string-of, leaf-string, VersionLeaf, group-string, root-string, entities, leaf-at, version-leaves, of-entity, group, entity-tree, root, commitment}
-use Rattle.model.specs.Question.{Relation, at-or-before, at-or-after, backward, forward, Part, version-only, trace-of, Question, asked, question, no-entity, not-yet, none-so-late, SearchEnd, by-entity, by-time, open-tree, open-versions, open-entities, Opened, Verdict, count}
+use Rattle.model.specs.Accumulator.{Subtree, letter-L, letter-N, letter-G, letter-P, letter-R, branch-string, parent, doubled-below, largest-power-below, halved, tree, subtree, string-of, leaf-string, VersionLeaf, versions-layout, group-string, root-string, entities, leaf-at, version-leaves, of-entity, group, entity-tree, root, commitment}
+use Rattle.model.specs.Question.{Relation, at-or-before, at-or-after, backward, forward, Part, version-only, trace-of, Question, asked, spanned, question, no-entity, not-yet, none-so-late, SearchEnd, by-entity, by-time, open-tree, open-versions, open-entities, Opened, OpenedAll, open-all, within, VersionName, Verdict, count}
 use Rattle.model.specs.Trace.{letter-E, letter-V, letter-S, letter-T, letter-D, refers, referred, add-ancestors, ancestors, starts-in, add-descendants, descendants, trace-versions, position-in, edges-inside, node-inside, induced-subgraph, trace, one-edge-string, record-string-by, record-string, record-strings, trace-string, letter-B, letter-F}
 use Rattle.model.specs.Answer.{proof, trace-part, answer, log-header, log-commitment, log-answer}
 use Rattle.model.specs.LogRows.{parse, above-all, ends-rows, next-record, records-by, records-from, log-by, log-within, read-log}
-use Rattle.model.specs.CheckRows.{enough, Accepted, run-under, run, path-strings, trace-strings, hashed-in-check, check-proof, take-string, due, shown-edges, shown-record, all-below, read-record, CheckedTrace, last-shown, read-records, read-trace, referred-to, first-unreferenced, unreferenced, found-position, trace-rows, with-trace}
+use Rattle.model.specs.CheckRows.{enough, Accepted, none-opened, none-due, check-leaf, check-all, leaf-name, run-under, run, path-strings, trace-strings, hashed-in-check, check-proof, take-string, due, shown-edges, shown-record, all-below, read-record, CheckedTrace, last-shown, read-records, read-trace, referred-to, first-unreferenced, unreferenced, found-position, trace-rows, with-trace}
 use Rattle.model.specs.Calls.{Written, output-after, fitting, writing, hash-call, commitment-bytes, commitment-call, answer-bytes, answer-call, listing-call, records-part, records-call}
 use Rattle.model.specs.Listing.{decimal-within, decimal, line, birth-word, flow-word, from-word, refused-word, at-word, made-by, version-line, too-long, listed, listing-within, listing}
 use Rattle.model.specs.Exact.{reached, SoundLog}
@@ -417,6 +417,28 @@ ahead-cases =
       seven = no-entity-3 at-or-after 0;
     }
 
+-- ---- all versions of 2 between two times: the names of the leaves opened, and the letters of the strings
+
+abbrev span-of-2 : ℕ → ℕ → OpenedAll VersionLeaf
+span-of-2 t1 t2 = open-all versions-layout (within (spanned 2 t1 t2)) (group (version-leaves (graph K)) 2 .versions)
+
+abbrev Opens-of-2 : ℕ → ℕ → List VersionName → List ℕ → Type 0
+Opens-of-2 t1 t2 names letters =
+    (map (λ (v : VersionLeaf). leaf-name (v .leaf)) (span-of-2 t1 t2 .leaves) ≡ names) × (letters-of (span-of-2 t1 t2 .opened) ≡ letters)
+
+abbrev name : ℕ → ℕ → VersionName
+name e t = record { entity = e; time = t }
+
+pub spans-of-2 :
+    Opens-of-2 20 30 (name 2 20 ∷ name 2 30 ∷ []) (letter-N ∷ letter-L ∷ letter-L ∷ [])
+    × Opens-of-2 0 20 (name 2 20 ∷ []) (letter-N ∷ letter-L ∷ [])
+    × Opens-of-2 30 30 (name 2 30 ∷ []) (letter-N ∷ letter-L ∷ [])
+    × Opens-of-2 21 29 [] (letter-N ∷ [])
+    × Opens-of-2 31 99 [] []
+    × Opens-of-2 0 19 [] []
+unfolding computed open-all within
+spans-of-2 = ((refl, refl), (refl, refl), (refl, refl), (refl, refl), (refl, refl), (refl, refl))
+
 -- ---- rows of the log; a row that comes first wins
 
 pub rows-of-the-log :
@@ -490,6 +512,20 @@ pub rows-of-the-check :
 unfolding computed run run-under check-proof take-string equal due shown-edges shown-record all-below read-record last-shown read-records read-trace referred-to first-unreferenced unreferenced found-position trace-rows with-trace
 rows-of-the-check =
     (refl, refl, refl, refl, refl, refl, refl, refl, refl, refl, refl, refl, refl, refl, refl, refl, refl, refl, refl, refl, refl, refl, refl)
+
+-- of a subtree in which no more N may stand on the path, and of one in which it may
+abbrev two-keys : Subtree
+two-keys = record { least = 20; greatest = 30; digest = [] }
+
+pub rows-of-a-span :
+    (check-all (within (spanned 2 20 30)) 0 two-keys 219 [] ≡ refuse 15 219)
+    × (check-all (within (spanned 2 20 30)) 0 two-keys 219 (letter-N ∷ []) ≡ refuse 16 219)
+    × (check-all (within (spanned 2 20 30)) 0 two-keys 219 (letter-L ∷ []) ≡ refuse 16 219)
+    × (check-all (within (spanned 2 20 30)) 1 two-keys 219 (letter-N ∷ []) ≡ refuse 15 219)
+    × (check-all (within (spanned 2 20 30)) 1 two-keys 219 (letter-L ∷ []) ≡ refuse 16 219)
+    × (check-all (within (spanned 2 31 40)) 0 two-keys 219 [] ≡ ok (none-opened 219 []))
+unfolding need _>>=_ take-string within none-due check-leaf check-all
+rows-of-a-span = (refl, refl, refl, refl, refl, refl)
 
 -- what the listing program prints for K
 pub K-listing : listing (log-bytes K)

@@ -48,7 +48,7 @@ taken letter w due pos x s p e =
     }
 
 -- a string that was opened is the true one, or a collision
-true-string : {B C : List Bytes} (letter w pos : ℕ) (x s str : Bytes) → 0 < w → str among B → s among C → take-string letter w (H str) pos x ≡ ok s → (s ≡ str) ⊎ Collision B C
+pub true-string : {B C : List Bytes} (letter w pos : ℕ) (x s str : Bytes) → 0 < w → str among B → s among C → take-string letter w (H str) pos x ≡ ok s → (s ≡ str) ⊎ Collision B C
 true-string letter w pos x s str p m k e = settle str s m k (taken letter w (H str) pos x s p e .hashes)
 
 -- ---- strings read back
@@ -128,6 +128,9 @@ leaf-back l h =
     }
 
 -- ---- the end of a walk, as the check sees it
+
+abbrev pub leaf-of : VersionLeaf → Leaf
+leaf-of v = v .leaf
 
 abbrev pub seen : SearchEnd VersionLeaf → SearchEnd Leaf
 seen (SearchEnd.not-found s) = SearchEnd.not-found s
@@ -411,10 +414,10 @@ pub record Used (pos : ℕ) (x : Bytes) (r : CheckedProof) : Type 0 where
   pub split : x ≡ joined (r .opened) ++ r .rest
   pub moved : r .pos ≡ pos + length (joined (r .opened))
 
-used-none : (e : SearchEnd Leaf) (pos : ℕ) (x : Bytes) → Used pos x (stopped e pos x)
+pub used-none : (e : SearchEnd Leaf) (pos : ℕ) (x : Bytes) → Used pos x (stopped e pos x)
 used-none e pos x = record { split = refl; moved = omega arith }
 
-used-one : (pos w : ℕ) (x s : Bytes) (r : CheckedProof) → s ≡ take w x → w ≤ length x → Used (pos + w) (drop w x) r → Used pos x (opening s r)
+pub used-one : (pos w : ℕ) (x s : Bytes) (r : CheckedProof) → s ≡ take w x → w ≤ length x → Used (pos + w) (drop w x) r → Used pos x (opening s r)
 used-one pos w x s r p h u =
     record {
       split =

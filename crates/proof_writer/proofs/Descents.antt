@@ -1,4 +1,4 @@
--- A descent in the tree of stored leaves: where it stands, half by half, and the strings opened on the way. One proof over layout and
+-- A descent in a tree: where it stands, half by half, and the strings opened on the way. One proof over layout and
 -- descent. Assumes nothing.
 use mathlib.Core.Path.{_≡_, refl, sym, ap, ap₂, _∙_, subst}
 use mathlib.Core.Bool.{Bool, true, false, cond, not}
@@ -13,16 +13,14 @@ use lib.Seq.{length-take-le, getD-append-add, getD-take, getD-drop}
 use Rattle.model.specs.Numbers.{Bytes, joined}
 use Rattle.model.specs.Accumulator.{Subtree as Known, Tree, tip, branch, branch-string, parent, largest-power-below, tree, Layout, subtree, string-of}
 use Rattle.model.specs.Question.{SearchEnd, Descent, Opened, stop, after, open-tree}
-use Rattle.model.proofs.Strings.{H-length}
+use Rattle.model.proofs.Strings.{H-length, joined-append}
 use Rattle.model.proofs.Trees.{flat, tree-flat, tree-one, tree-halves}
 use Rattle.model.proofs.Open.{branch-length}
 use Rattle.model.proofs.Walk.{stopped-at, opened-tip, opened-branch}
 use Rattle.graph.proofs.Nodes.{map-length}
-use Rattle.graph.proofs.Strings.{joined-append}
-use Rattle.accumulator.specs.Halves.{subtree-of, path-to}
+use Rattle.accumulator.specs.Halves.{own, subtree-of, path-to}
 use Rattle.accumulator.proofs.Splitting.{split-bounds, subtree-of-tree, map-take, map-drop}
 use Rattle.accumulator.proofs.Opening.{path-none, path-two}
-use Rattle.proof_writer.specs.StoredLeaves.{own}
 use Rattle.proof_writer.specs.Walks.{half-of, onto, Walked}
 
 onto-none : (w : Opened) → onto [] w ≡ w
@@ -33,37 +31,10 @@ onto-more : (ss : List Bytes) (x : Bytes) (w : Opened) → onto ss (after x w) �
 unfolding onto
 onto-more ss x w = ap (λ (ys : List Bytes). record { end = w .end; opened = ys }) (sym (append-assoc ss (x ∷ []) (w .opened)))
 
--- ---- the first and the last key of a tree
-
-module _ {A : Type 0} (l : Layout A) (a : A) where
-  flat-some : (t : Tree A) → 0 < length (flat t)
-  flat-some (tip x) = omega arith
-  flat-some (branch s t) = omega (arith, flat-some s, length-append (flat s) (flat t))
-
-  least-first : (t : Tree A) → subtree l t .least ≡ l .key (getD (flat t) 0 a)
-  unfolding subtree parent
-  least-first (tip x) = refl
-  least-first (branch s t) = least-first s ∙ ap (l .key) (sym (List·getD-append (flat s) (flat t) a 0 (flat-some s)))
-
-  greatest-last : (t : Tree A) → subtree l t .greatest ≡ l .key (getD (flat t) (length (flat t) - 1) a)
-  unfolding subtree parent
-  greatest-last (tip x) = refl
-  greatest-last (branch s t) =
-      greatest-last t
-      ∙ ap (l .key)
-      (sym (getD-append-add (flat s) (flat t) (length (flat t) - 1) a)
-      ∙ ap (λ (i : ℕ). getD (flat s ++ flat t) i a) (let z : length (flat s) + (length (flat t) - 1) ≡ length (flat s ++ flat t) - 1 = omega (arith, flat-some t, length-append (flat s) (flat t)) in z))
-
-  pub tree-least : (xs : List A) → 0 < length xs → subtree l (tree a xs) .least ≡ l .key (getD xs 0 a)
-  tree-least xs h = least-first (tree a xs) ∙ ap (λ (ys : List A). l .key (getD ys 0 a)) (tree-flat a xs h)
-
-  pub tree-greatest : (xs : List A) → 0 < length xs → subtree l (tree a xs) .greatest ≡ l .key (getD xs (length xs - 1) a)
-  tree-greatest xs h = greatest-last (tree a xs) ∙ ap (λ (ys : List A). l .key (getD ys (length ys - 1) a)) (tree-flat a xs h)
-
-  pub digest-32 : (t : Tree A) → length (subtree l t .digest) ≡ 32
-  unfolding subtree parent
-  digest-32 (tip x) = H-length (l .string x)
-  digest-32 (branch s t) = H-length (branch-string (l .inner-letter) (subtree l s) (subtree l t))
+pub digest-32 : {A : Type 0} (l : Layout A) (t : Tree A) → length (subtree l t .digest) ≡ 32
+unfolding subtree parent
+digest-32 l (tip x) = H-length (l .string x)
+digest-32 l (branch s t) = H-length (branch-string (l .inner-letter) (subtree l s) (subtree l t))
 
 -- ---- a descent
 
@@ -106,17 +77,6 @@ module _ {A : Type 0} (l : Layout A) (d : Descent) (inside : A → Opened) (a : 
         ∙ sym (getD-append-add (W .front) (W .part ++ W .back) i a)
         ∙ ap₂ (λ (ys : List A) (k : ℕ). getD ys (k + i) a) (sym (W .whole)) (W .before)
 
-    pub way-least : subtree l (tree a (W .part)) .least ≡ l .key (getD xs from a)
-    way-least =
-        tree-least l a (W .part) (omega (arith, W .number, W .some-leaf))
-        ∙ ap (l .key) (at 0 (W .some-leaf) ∙ ap (λ (k : ℕ). getD xs k a) (add-zero from))
-
-    pub way-greatest : subtree l (tree a (W .part)) .greatest ≡ l .key (getD xs (from + (n - 1)) a)
-    way-greatest =
-        tree-greatest l a (W .part) (omega (arith, W .number, W .some-leaf))
-        ∙ ap (λ (k : ℕ). l .key (getD (W .part) (k - 1) a)) (W .number)
-        ∙ ap (l .key) (at (n - 1) (omega (arith, W .some-leaf)))
-
     -- the strings so far
     path-here : path-to (l .inner-letter) (own l xs) from depth ≡ W .strings
     path-here =
@@ -137,21 +97,26 @@ module _ {A : Type 0} (l : Layout A) (d : Descent) (inside : A → Opened) (a : 
         → Walked l d inside a xs from depth (stop (SearchEnd.not-found (d .stop-at (subtree l (tree a (W .part))))))
     way-stopped h = walked _ (stopped-at l d inside (tree a (W .part)) (subst T (sym h) tt))
 
-    pub way-leaf : n ≤ 1 → d .stops (subtree l (tree a (W .part))) ≡ false
-        → Walked l d inside a xs from depth (after (l .string (getD xs from a)) (inside (getD xs from a)))
-    way-leaf h s = go (W .part) refl
+    -- it stands at a leaf
+    leaf-tree : n ≤ 1 → tree a (W .part) ≡ tip (getD xs from a)
+    leaf-tree h = go (W .part) refl
       where
-        go : (ys : List A) → W .part ≡ ys → Walked l d inside a xs from depth (after (l .string (getD xs from a)) (inside (getD xs from a)))
+        go : (ys : List A) → W .part ≡ ys → tree a (W .part) ≡ tip (getD xs from a)
         go [] q = absurd (let z : ⊥ = omega (arith, ap length q, W .number, W .some-leaf) in z)
         go (x ∷ y ∷ ys) q = absurd (let z : ⊥ = omega (arith, ap length q, W .number) in z)
         go (x ∷ []) q =
-            let t : tree a (W .part) ≡ tip x = ap (tree a) q ∙ tree-one a x in
-            let v : x ≡ getD xs from a =
-            ap (λ (ys : List A). getD ys 0 a) (sym q) ∙ at 0 (W .some-leaf) ∙ ap (λ (k : ℕ). getD xs k a) (add-zero from) in
-            walked _
-            (ap (open-tree l d inside) t
-            ∙ opened-tip l d inside x (subst (λ (b : Bool). T (not b)) (sym (ap (λ (u : Tree A). d .stops (subtree l u)) (sym t) ∙ s)) tt)
-            ∙ ap (λ (z : A). after (l .string z) (inside z)) v)
+            ap (tree a) q ∙ tree-one a x
+            ∙ ap tip (ap (λ (ys : List A). getD ys 0 a) (sym q) ∙ at 0 (W .some-leaf) ∙ ap (λ (k : ℕ). getD xs k a) (add-zero from))
+
+    pub way-tip : n ≤ 1 → d .stops (subtree l (tree a (W .part))) ≡ false → d .stops (subtree l (tip (getD xs from a))) ≡ false
+    way-tip h s = ap (λ (u : Tree A). d .stops (subtree l u)) (sym (leaf-tree h)) ∙ s
+
+    pub way-leaf : n ≤ 1 → d .stops (subtree l (tree a (W .part))) ≡ false
+        → Walked l d inside a xs from depth (after (l .string (getD xs from a)) (inside (getD xs from a)))
+    way-leaf h s =
+        walked _
+        (ap (open-tree l d inside) (leaf-tree h)
+        ∙ opened-tip l d inside (getD xs from a) (subst (λ (b : Bool). T (not b)) (sym (way-tip h s)) tt))
 
     -- the two halves
     module _ (more : 1 < n) (goes-on : d .stops (subtree l (tree a (W .part))) ≡ false) where
@@ -184,20 +149,9 @@ module _ {A : Type 0} (l : Layout A) (d : Descent) (inside : A → Opened) (a : 
       unfoldable pub turns-left : Bool
       turns-left = d .goes-left (subtree l (tree a left)) (subtree l (tree a right))
 
-      pub left-greatest : subtree l (tree a left) .greatest ≡ l .key (getD xs (from + (largest-power-below n - 1)) a)
-      left-greatest =
-          tree-greatest l a left (omega (arith, left-number, bounds .0))
-          ∙ ap (λ (j : ℕ). l .key (getD left (j - 1) a)) left-number
-          ∙ ap (l .key) (getD-take k (W .part) (k - 1) a (omega (arith, bounds .0)) ∙ at (k - 1) (omega (arith, bounds .1)))
-
-      pub right-least : subtree l (tree a right) .least ≡ l .key (getD xs (from + largest-power-below n) a)
-      right-least =
-          tree-least l a right (omega (arith, right-number, bounds .1))
-          ∙ ap (l .key) (getD-drop k (W .part) 0 a ∙ ap (λ (j : ℕ). getD (W .part) j a) (add-zero k) ∙ at k (bounds .1))
-
       string-97 : length string ≡ 97
       unfolding string-of
-      string-97 = branch-length (l .inner-letter) (subtree l (tree a left)) (subtree l (tree a right)) (digest-32 l a (tree a left)) (digest-32 l a (tree a right))
+      string-97 = branch-length (l .inner-letter) (subtree l (tree a left)) (subtree l (tree a right)) (digest-32 l (tree a left)) (digest-32 l (tree a right))
 
       string-is : branch-string (l .inner-letter) (subtree-of (l .inner-letter) (take k (own l (W .part)))) (subtree-of (l .inner-letter) (drop k (own l (W .part)))) ≡ string
       unfolding string-of own

@@ -1,8 +1,7 @@
--- Laws that the proofs of the functions and other crates cite.
+-- Laws about planning and writing a proof.
 pub mod Descents
 pub mod Seeking
-pub mod StoringLeaves
-pub mod Counting
 pub mod Planning
 pub mod Writing
+pub mod Spans
 pub mod Outcome

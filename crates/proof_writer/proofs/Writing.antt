@@ -3,108 +3,144 @@ use mathlib.Core.Path.{_≡_, refl, sym, ap, ap₂, _∙_, subst}
 use mathlib.Core.List.{List, [], _∷_, _++_, append-nil, append-assoc}
 use Prim.Native.Nat.{ℕ, suc, _+_, _-_, _*_, _≤_, _<_}
 use native.Mathlib.Omega.{arith}
-use lib.Dec.{T}
-use lib.ListN.{length, length-append}
+use lib.ListN.{length, getD, length-append}
 use Rattle.fields.specs.Fields.{part, field, written}
-use Rattle.fields.proofs.Places.{length-part, written-front}
+use Rattle.fields.proofs.Places.{length-part}
 use Rattle.model.specs.Numbers.{Bytes, joined}
-use Rattle.model.specs.Graph.{VersionNode, node-at}
-use Rattle.model.specs.Accumulator.{Subtree as Known, tree, Layout, subtree, Leaf, leaf-string, group-string, root-string, versions-layout, no-leaf, entities-layout, no-group, Header, entities, version-leaves, group, entity-tree, root, is-entry, leaf-at}
+use Rattle.model.specs.Graph.{VersionNode}
+use Rattle.model.specs.Accumulator.{Subtree as Known, tree, subtree, Leaf, leaf-string, group-string, root-string, versions-layout, no-leaf, entities-layout, no-group, Header, entities, version-leaves, group, entity-tree, root, leaf-at}
 use Rattle.model.specs.Question.{Question, Opened}
 use Rattle.model.specs.Answer.{proof}
-use Rattle.model.proofs.Strings.{joined-length, num, text, none}
+use Rattle.model.proofs.Strings.{joined-append, joined-length, num, text, none}
 use Rattle.model.proofs.Open.{root-length, group-length}
 use Rattle.question.specs.declared.EntityKey.{EntityKey}
 use Rattle.question.specs.declared.TimeKey.{TimeKey}
-use Rattle.graph.specs.Table.{node-in, version, columns, Kept}
-use Rattle.graph.proofs.Nodes.{map-length, node-kept}
-use Rattle.graph.proofs.Strings.{joined-append}
-use Rattle.accumulator.specs.declared.Subtree.{Subtree}
-use Rattle.accumulator.specs.Trees.{known, leafOf}
-use Rattle.accumulator.specs.Halves.{subtree-of, stored-leaves, path-to, LeavesFit, PathPut}
+use Rattle.graph.proofs.Nodes.{map-length}
+use Rattle.accumulator.specs.Trees.{leafOf}
+use Rattle.accumulator.specs.Halves.{own, subtree-of, path-to}
 use Rattle.accumulator.proofs.Splitting.{subtree-of-tree}
 use Rattle.accumulator.proofs.Strings.{then}
-use Rattle.accumulator.proofs.Opening.{path-none}
-use Rattle.trees.specs.Tables.{slot-leaf, Graphed, HasGraph}
-use Rattle.trees.proofs.EntityWalk.{slot-node, slot-leaf-is, some-version}
+use Rattle.trees.specs.Tables.{slot-leaf, Graphed, HasGraph, groups, versions, version-at}
+use Rattle.trees.proofs.EntityWalk.{slot-leaf-is}
+use Rattle.ranks.specs.declared.Ranks.{Ranks}
+use Rattle.ranks.specs.Ranked.{first-in, count-in, entity-at}
+use Rattle.ranks.proofs.Reading.{some-versions}
+use Rattle.kept_trees.specs.Leaves.{stretch, tree-of, versions-row, entities-row}
+use Rattle.kept_trees.specs.Kept.{way-to, WayPut}
+use Rattle.kept_trees.proofs.Graphs.{versions-are, versions-number, entities-are}
+use Rattle.proof_writer.specs.declared.Way.{Way}
 use Rattle.proof_writer.specs.declared.EntityPath.{EntityPath}
 use Rattle.proof_writer.specs.declared.Planned.{Planned}
 use Rattle.proof_writer.specs.declared.Planned.the-variants.{NoEntity, Unmet, Found}
-use Rattle.proof_writer.specs.StoredLeaves.{own, LeavesStored, HasLeaves, groups, versions, version-at, VersionLeavesStored}
-use Rattle.proof_writer.specs.Walks.{onto}
-use Rattle.proof_writer.specs.Plans.{entity-path, entity-string, version-path, path-of, length-of, walk-of, PathFits, PathIs, EntryIs, FoundIs, RestIs, PlanIs, Plan, HasPlan, EntityFits, EntityPut, front-bytes}
+use Rattle.proof_writer.specs.Plans.{reached-entity, entity-path, entity-string, version-path, strings-of, path-of, length-of, PathIs, WayIs, RestIs, PlanIs, Plan, HasPlan, HasPath, HasWay, front-bytes, entity-bytes, walk-bytes}
 use Rattle.proof_writer.proofs.Descents.{digest-32}
-use Rattle.proof_writer.proofs.StoringLeaves.{graphed-kept}
-
--- ---- a string and the path behind it
-
-has-leaves-stored : (work : Bytes) (count : ℕ) → HasLeaves work count → LeavesFit work 84 128 0 count
-has-leaves-stored work count L = record { some = L .some-leaf; apart = omega arith; room = omega (arith, L .some-leaf, L .room) }
-
-stored-tree : {A : Type 0} (l : Layout A) (a : A) (work : Bytes) (xs : List A) (count : ℕ) → LeavesStored l work xs count → 0 < count
-    → subtree-of (l .inner-letter) (stored-leaves work 84 128 0 count) ≡ subtree l (tree a xs)
-unfolding own
-stored-tree l a work xs count R h = ap (subtree-of (l .inner-letter)) (R .stored) ∙ subtree-of-tree l a xs (omega (arith, R .number))
-
-string-then-path : (letter : ℕ) (ks ls : List Known) (i j depth : ℕ) (out out1 out2 a : Bytes) (at m w : ℕ) (k : Known) → PathPut letter ks i depth out out1 m k → ks ≡ ls → i ≡ j
-    → out2 ≡ written out1 at a → length a ≡ w → m ≡ at + w → m + 97 * depth ≤ length out → out2 ≡ written out at (a ++ joined (path-to letter ls j depth))
-string-then-path letter ks ls i j depth out out1 out2 a at m w k P e f g h q r =
-    let s = P .short in
-    written-front out out1 out2 a (joined (path-to letter ks i depth)) at m (P .strings) g (omega arith) (omega arith)
-    ∙ ap₂ (λ (us : List Known) (u : ℕ). written out at (a ++ joined (path-to letter us u depth))) e f
+use Rattle.proof_writer.proofs.Planning.{reached-leaves, reached-number}
 
 -- ---- R and P
 
-pub front-stored : (work : Bytes) (p : EntityPath) (room : ℕ) → PathFits work p → 65 + 97 * p .depth ≤ room
-    → LeavesFit work 84 128 0 (p .count) × (0 ≤ p .target) × (p .target < 0 + p .count) × (65 + 97 * p .depth ≤ room)
-front-stored work p room F h = (has-leaves-stored work (p .count) (F .has-leaves), omega arith, omega (arith, F .inside), h)
+module _ (work : Bytes) (n : ℕ) (ns : List VersionNode) (G : Graphed work n ns) (p : EntityPath) (I : PathIs work ns p) where
+  entities-letter : (w : Bytes) (r : Ranks) → entities-row w r .letter ≡ 0x50
+  unfolding entities-row
+  entities-letter w r = refl
 
-pub front-is : (work : Bytes) (ns : List VersionNode) (header : Header) (p : EntityPath) (out out1 out2 : Bytes) (k : Subtree) → PathIs work ns p
-    → PathPut 0x50 (stored-leaves work 84 128 0 (p .count)) (p .target - 0) (p .depth) out out1 65 (known k) → out2 ≡ written out1 0 (root-string header (p .count) (known k))
-    → 65 + 97 * p .depth ≤ length out → out2 ≡ written out 0 (joined (root header ns ∷ entity-path ns p))
-unfolding root entity-path groups entity-tree
-front-is work ns header p out out1 out2 k I P e h =
-    let t : known k ≡ subtree entities-layout (entity-tree ns) = P .root ∙ stored-tree entities-layout no-group work (groups ns) (p .count) (I .stored) (I .fits .has-leaves .some-leaf) in
-    let c : p .count ≡ length (entities ns) = I .stored .number ∙ map-length (group (version-leaves ns)) (entities ns) in
-    string-then-path 0x50 (stored-leaves work 84 128 0 (p .count)) (own entities-layout (groups ns)) (p .target - 0) (p .target) (p .depth) out out1 out2 _ 0 65 65 (known k) P (I .stored .stored) (let z : p .target - 0 ≡ p .target = omega arith in z)
-    (e ∙ ap₂ (λ (m : ℕ) (u : Known). written out1 0 (root-string header m u)) c t)
-    (root-length header (length (entities ns)) (subtree entities-layout (entity-tree ns)) (digest-32 entities-layout no-group (entity-tree ns))) (omega arith) h
+  versions-letter : (w : Bytes) → versions-row w .letter ≡ 0x4e
+  unfolding versions-row
+  versions-letter w = refl
 
--- ---- G and N
+  leaves : stretch (entities-row work (p .ranks)) 0 (p .ranks .entities) ≡ own entities-layout (groups ns)
+  leaves = entities-are work ns (G .digested) (p .ranks) (I .ranked)
 
-module _ (work work′ : Bytes) (n entry index depth at : ℕ) (out : Bytes) (E : EntityFits work n entry index depth (length out) at) (count : ℕ)
-    (stored : (ns : List VersionNode) → Graphed work n ns → VersionLeavesStored work work′ ns (node-at ns entry .entity) count) where
-  pub entity-stored : LeavesFit work′ 84 128 0 count × (0 ≤ index) × (index < 0 + count) × (at + 57 + 97 * depth ≤ length out)
-  entity-stored =
-      let L = stored (E .graph .ns) (E .graph .graphed) in
-      (has-leaves-stored work′ count (L .has-leaves), omega arith, omega (arith, E .index-inside (E .graph .ns) (E .graph .graphed), L .stored .number), E .space)
+  groups-length : length (groups ns) ≡ length (entities ns)
+  unfolding groups
+  groups-length = map-length (group (version-leaves ns)) (entities ns)
 
-  pub entity-kept : Kept (columns 84 124 ∷ []) work work′
-  entity-kept = stored (E .graph .ns) (E .graph .graphed) .kept
+  tree-is : tree-of (entities-row work (p .ranks)) 0 (p .ranks .entities) ≡ subtree entities-layout (entity-tree ns)
+  unfolding entity-tree groups own
+  tree-is =
+      ap₂ subtree-of (entities-letter work (p .ranks)) leaves
+      ∙ subtree-of-tree entities-layout no-group (groups ns) (omega (arith, groups-length, I .ranked .number, I .ranked .ranked .some-entity))
 
-  pub entity-slot : 128 * entry + 128 ≤ length work′
-  entity-slot = let G = E .graph .graphed in omega (arith, E .inside, G .digested .room, G .number, entity-kept .size)
+  root-65 : (h : Header) → length (root h ns) ≡ 65
+  unfolding root
+  root-65 h = root-length h (length (entities ns)) (subtree entities-layout (entity-tree ns)) (digest-32 entities-layout (entity-tree ns))
 
-  pub entity-is : (e : EntityKey) (k : Subtree) (out1 out2 : Bytes) → e .0 ≡ field 4 work′ (128 * entry + 72) → PathPut 0x4e (stored-leaves work′ 84 128 0 count) (index - 0) depth out out1 (at + 57) (known k)
-      → out2 ≡ written out1 at (group-string (e .0) (known k))
-      → (ns : List VersionNode) → Graphed work n ns → EntityPut ns (node-at ns entry .entity) index depth out out2 at
-  unfolding entity-string version-path group versions node-in version
-  entity-is e k out1 out2 q P g ns G =
-      let L = stored ns G in
-      let x = node-at ns entry .entity in
-      let name : e .0 ≡ x =
-      q ∙ ap (λ (m : VersionNode). m .entity) (node-kept (columns 84 124 ∷ []) work work′ entity-kept tt entry ∙ slot-node work ns entry (G .digested) (omega (arith, E .inside, G .number))) in
-      let t : known k ≡ subtree versions-layout (tree no-leaf (versions ns x)) = P .root ∙ stored-tree versions-layout no-leaf work′ (versions ns x) count (L .stored) (L .has-leaves .some-leaf) in
-      let same : index - 0 ≡ index = omega arith in
-      record {
-        strings =
-            string-then-path 0x4e (stored-leaves work′ 84 128 0 count) (own versions-layout (versions ns x)) (index - 0) index depth out out1 out2 _ at (at + 57) 57 (known k) P (L .stored .stored) same
-            (g ∙ ap₂ (λ (m : ℕ) (u : Known). written out1 at (group-string m u)) name t)
-            (group-length x (subtree versions-layout (tree no-leaf (versions ns x))) (digest-32 versions-layout no-leaf (tree no-leaf (versions ns x)))) refl (E .space);
-        short =
-            subst (λ (ks : List Known). length (joined (path-to 0x4e ks index depth)) ≤ 97 * depth) (L .stored .stored)
-            (subst (λ (i : ℕ). length (joined (path-to 0x4e (stored-leaves work′ 84 128 0 count) i depth)) ≤ 97 * depth) same (P .short));
-      }
+  pub front-length : (h : Header) → length (front-bytes h ns p) ≡ 65 + 97 * p .depth
+  unfolding front-bytes
+  front-length h = length-append (root h ns) (joined (entity-path ns p)) ∙ omega (arith, root-65 h, I .long)
+
+  pub front-is : (h : Header) (k : Known) (out out1 out2 : Bytes) → k ≡ tree-of (entities-row work (p .ranks)) 0 (p .ranks .entities)
+      → out1 ≡ written out 0 (root-string h (p .ranks .entities) k) → WayPut (entities-row work (p .ranks)) 0 (p .ranks .entities) (p .target - 0) (p .depth) out1 out2 65
+      → 65 + 97 * p .depth ≤ length out → out2 ≡ written out 0 (front-bytes h ns p)
+  unfolding front-bytes entity-path root
+  front-is h k out out1 out2 e f P room =
+      let way : way-to (entities-row work (p .ranks)) 0 (p .ranks .entities) (p .target - 0) (p .depth) ≡ entity-path ns p =
+      ap₂ (λ (l : ℕ) (ks : List Known). path-to l ks (p .target - 0) (p .depth)) (entities-letter work (p .ranks)) leaves
+      ∙ ap (λ (i : ℕ). path-to 0x50 (own entities-layout (groups ns)) i (p .depth)) (let z : p .target - 0 ≡ p .target = omega arith in z) in
+      then out out1 out2 (root h ns) (joined (entity-path ns p)) 0 65
+      (f ∙ ap₂ (λ (c : ℕ) (t : Known). written out 0 (root-string h c t)) (I .ranked .number) (e ∙ tree-is))
+      (P .strings ∙ ap (λ (ss : List Bytes). written out1 65 (joined ss)) way) (omega (arith, root-65 h)) (omega (arith, I .long, root-65 h))
+
+  -- ---- G
+
+  abbrev x : ℕ
+  x = reached-entity ns p
+
+  versions-tree-is : tree-of (versions-row work) (first-in work (p .ranks) (p .target)) (count-in work (p .ranks) (p .target)) ≡ subtree versions-layout (group (version-leaves ns) x .versions)
+  unfolding group versions own
+  versions-tree-is =
+      ap₂ subtree-of (versions-letter work) (versions-are work ns (G .digested) (p .ranks) (I .ranked) (p .target) (I .inside))
+      ∙ subtree-of-tree versions-layout no-leaf (versions ns x) (some-version (versions-number work ns (G .digested) (p .ranks) (I .ranked) (p .target) (I .inside)))
+    where
+      some-version : count-in work (p .ranks) (p .target) ≡ length (versions ns x) → 0 < length (versions ns x)
+      some-version e = omega (arith, some-versions work (p .ranks) (I .ranked .ranked) (p .target) (I .inside))
+
+  pub group-is : (e at : ℕ) (k : Known) (out out1 : Bytes) → e ≡ entity-at work (p .ranks) (p .target)
+      → k ≡ tree-of (versions-row work) (first-in work (p .ranks) (p .target)) (count-in work (p .ranks) (p .target)) → out1 ≡ written out at (group-string e k)
+      → out1 ≡ written out at (entity-string ns x)
+  unfolding entity-string group
+  group-is e at k out out1 f g o =
+      o ∙ ap₂ (λ (m : ℕ) (u : Known). written out at (group-string m u)) (f ∙ I .ranked .names (p .target) (I .inside)) (g ∙ versions-tree-is)
+
+  pub entity-57 : length (entity-string ns x) ≡ 57
+  unfolding entity-string group
+  entity-57 = group-length x (subtree versions-layout (group (version-leaves ns) x .versions)) (digest-32 versions-layout (group (version-leaves ns) x .versions))
+
+  pub entity-is : (h : Header) (out out1 out2 : Bytes) → 122 + 97 * p .depth ≤ length out → out1 ≡ written out 0 (front-bytes h ns p) → out2 ≡ written out1 (65 + 97 * p .depth) (entity-string ns x)
+      → out2 ≡ written out 0 (entity-bytes h ns p)
+  unfolding entity-bytes
+  entity-is h out out1 out2 room e f =
+      let a = front-length h in
+      let b = entity-57 in
+      then out out1 out2 (front-bytes h ns p) (entity-string ns x) 0 (65 + 97 * p .depth) e f (omega arith) (omega arith)
+
+  entity-length : (h : Header) → length (entity-bytes h ns p) ≡ 122 + 97 * p .depth
+  unfolding entity-bytes
+  entity-length h = length-append (front-bytes h ns p) (entity-string ns x) ∙ omega (arith, front-length h, entity-57)
+
+  -- ---- N
+
+  module _ (w : Way) where
+    pub versions-is : (f t at : ℕ) (out out1 : Bytes) → f ≡ first-in work (p .ranks) (p .target) → t ≡ first-in work (p .ranks) (p .target + 1)
+        → WayPut (versions-row work) f (t - f) (f + w .target - f) (w .depth) out out1 at → out1 ≡ written out at (joined (version-path ns x w))
+    unfolding version-path
+    versions-is f t at out out1 a b P =
+        P .strings
+        ∙ ap (λ (ss : List Bytes). written out at (joined ss))
+        (ap₂ (λ (l : ℕ) (ks : List Known). path-to l ks (f + w .target - f) (w .depth)) (versions-letter work) (reached-leaves work n ns G p I f t a b)
+        ∙ ap (λ (i : ℕ). path-to 0x4e (own versions-layout (versions ns x)) i (w .depth)) (let z : f + w .target - f ≡ w .target = omega arith in z))
+
+    module _ (Q : WayIs ns x p w) where
+      pub walk-is : (h : Header) (out out1 out2 : Bytes) → 122 + 97 * p .depth + 97 * w .depth ≤ length out → out1 ≡ written out 0 (entity-bytes h ns p)
+          → out2 ≡ written out1 (122 + 97 * p .depth) (joined (version-path ns x w)) → out2 ≡ written out 0 (walk-bytes h ns p w)
+      unfolding walk-bytes
+      walk-is h out out1 out2 room e f =
+          let a = entity-length h in
+          let b = Q .long in
+          then out out1 out2 (entity-bytes h ns p) (joined (version-path ns x w)) 0 (122 + 97 * p .depth) e f (omega arith) (omega arith)
+
+      pub walk-length : (h : Header) → length (walk-bytes h ns p w) ≡ 122 + 97 * p .depth + 97 * w .depth
+      unfolding walk-bytes
+      walk-length h = length-append (entity-bytes h ns p) (joined (version-path ns x w)) ∙ omega (arith, entity-length h, Q .long)
 
 -- ---- L
 
@@ -128,164 +164,112 @@ version-77 work n ns slot G h =
     (ap length (sym (D .incoming .stored slot h)) ∙ length-part work (128 * slot + 0) 32 (omega (arith, D .room)))
     (ap length (sym (D .outgoing .stored slot h)) ∙ length-part work (128 * slot + 32) 32 (omega (arith, D .room)))
 
--- ---- one behind the other
-
-pub front-length : (h : Header) (work : Bytes) (ns : List VersionNode) (p : EntityPath) → PathIs work ns p → length (joined (root h ns ∷ entity-path ns p)) ≡ 65 + 97 * p .depth
-unfolding root
-front-length h work ns p I =
-    length-append (root h ns) (joined (entity-path ns p))
-    ∙ omega (arith, I .long, root-length h (length (entities ns)) (subtree entities-layout (entity-tree ns)) (digest-32 entities-layout no-group (entity-tree ns)))
-
-pub entity-length : (ns : List VersionNode) (x : ℕ) (ss : List Bytes) → length (joined (entity-string ns x ∷ ss)) ≡ 57 + length (joined ss)
-unfolding entity-string group
-entity-length ns x ss =
-    length-append (entity-string ns x) (joined ss)
-    ∙ omega (arith, group-length x (subtree versions-layout (group (version-leaves ns) x .versions)) (digest-32 versions-layout no-leaf (group (version-leaves ns) x .versions)))
-
-pub fits-in : (work : Bytes) (n entry index depth room room′ at : ℕ) → EntityFits work n entry index depth room at → room ≡ room′ → EntityFits work n entry index depth room′ at
-fits-in work n entry index depth room room′ at E e = subst (λ (m : ℕ). EntityFits work n entry index depth m at) e E
-
-pub walk-is : (h : Header) (work : Bytes) (n : ℕ) (p : EntityPath) (entry index depth : ℕ) (out out1 out2 : Bytes) → 65 + 97 * p .depth + 57 + 97 * depth ≤ length out
-    → ((ns : List VersionNode) → Graphed work n ns → PathIs work ns p → out1 ≡ written out 0 (joined (root h ns ∷ entity-path ns p)))
-    → ((ns : List VersionNode) → Graphed work n ns → EntityPut ns (node-at ns entry .entity) index depth out1 out2 (65 + 97 * p .depth))
-    → (ns : List VersionNode) → Graphed work n ns → PathIs work ns p → out2 ≡ written out 0 (front-bytes h ns p entry index depth)
-unfolding front-bytes
-walk-is h work n p entry index depth out out1 out2 room f g ns G I =
-    let x = node-at ns entry .entity in
-    let E = g ns G in
-    let a = front-length h work ns p I in
-    let b = entity-length ns x (version-path ns x index depth) in
-    let c = E .short in
-    then out out1 out2 (joined (root h ns ∷ entity-path ns p)) (joined (entity-string ns x ∷ version-path ns x index depth)) 0 (65 + 97 * p .depth) (f ns G I) (E .strings) (omega arith) (omega arith)
-
-pub found-is : (h : Header) (work work′ : Bytes) (n : ℕ) (p : EntityPath) (entry slot index depth : ℕ) (out out1 out2 : Bytes) → 199 + 97 * p .depth + 97 * depth ≤ length out → Kept (columns 84 124 ∷ []) work work′
-    → ((ns : List VersionNode) → Graphed work n ns → PathIs work ns p → out1 ≡ written out 0 (front-bytes h ns p entry index depth))
-    → ((ns : List VersionNode) → Graphed work′ n ns → out2 ≡ written out1 (122 + 97 * p .depth + 97 * depth) (leaf-string (version-at ns slot .leaf)))
-    → (ns : List VersionNode) → Graphed work n ns → PathIs work ns p → FoundIs ns (node-at ns entry .entity) entry slot index depth
-    → out2 ≡ written out 0 (front-bytes h ns p entry index depth ++ leaf-string (version-at ns slot .leaf))
-unfolding front-bytes
-found-is h work work′ n p entry slot index depth out out1 out2 room K f g ns G I F =
-    let x = node-at ns entry .entity in
-    let a = front-length h work ns p I in
-    let b = entity-length ns x (version-path ns x index depth) in
-    let c = F .long in
-    let d = version-77 work n ns slot G (F .slot-inside) in
-    let e = length-append (joined (root h ns ∷ entity-path ns p)) (joined (entity-string ns x ∷ version-path ns x index depth)) in
-    then out out1 out2 (front-bytes h ns p entry index depth) (leaf-string (version-at ns slot .leaf)) 0 (122 + 97 * p .depth + 97 * depth) (f ns G I)
-    (g ns (graphed-kept (columns 84 124 ∷ []) work work′ n ns K tt tt tt tt G)) (omega arith) (omega arith)
-
-pub graph-kept : (work work′ : Bytes) (n : ℕ) → Kept (columns 84 124 ∷ []) work work′ → HasGraph work n → HasGraph work′ n
-graph-kept work work′ n K H = record { ns = H .ns; graphed = graphed-kept (columns 84 124 ∷ []) work work′ n (H .ns) K tt tt tt tt (H .graphed) }
+pub found-is : (work : Bytes) (n : ℕ) (ns : List VersionNode) (G : Graphed work n ns) (p : EntityPath) (I : PathIs work ns p) (w : Way) (Q : WayIs ns (reached-entity ns p) p w) (slot : ℕ) → slot < n
+    → (h : Header) (out out1 out2 : Bytes) → 122 + 97 * p .depth + (97 * w .depth + 77) ≤ length out → out1 ≡ written out 0 (walk-bytes h ns p w)
+    → out2 ≡ written out1 (122 + 97 * p .depth + 97 * w .depth) (leaf-string (version-at ns slot .leaf)) → out2 ≡ written out 0 (walk-bytes h ns p w ++ leaf-string (version-at ns slot .leaf))
+found-is work n ns G p I w Q slot s h out out1 out2 room e f =
+    let a = walk-length work n ns G p I w Q h in
+    let b = version-77 work n ns slot G (omega (arith, G .number)) in
+    then out out1 out2 (walk-bytes h ns p w) (leaf-string (version-at ns slot .leaf)) 0 (122 + 97 * p .depth + 97 * w .depth) e f (omega arith) (omega arith)
 
 -- ---- a plan, case by case
 
+-- one string behind others, and others behind it
+joined-behind : (xs : List Bytes) (y : Bytes) (ys : List Bytes) → joined (xs ++ (y ∷ ys)) ≡ (joined xs ++ y) ++ joined ys
+joined-behind xs y ys = joined-append xs (y ∷ ys) ∙ sym (append-assoc (joined xs) y (joined ys))
+
+module _ (h : Header) (ns : List VersionNode) (p : EntityPath) (x : ℕ) (name : reached-entity ns p ≡ x) (w : Way) where
+  pub walk-strings : walk-bytes h ns p w ≡ joined (root h ns ∷ (entity-path ns p ++ (entity-string ns x ∷ version-path ns x w)))
+  unfolding walk-bytes entity-bytes front-bytes
+  walk-strings =
+      ap (λ (y : ℕ). ((root h ns ++ joined (entity-path ns p)) ++ entity-string ns y) ++ joined (version-path ns y w)) name
+      ∙ sym (joined-behind (root h ns ∷ entity-path ns p) (entity-string ns x) (version-path ns x w))
+
+  pub found-strings : (l : Bytes) → walk-bytes h ns p w ++ l ≡ joined (root h ns ∷ (entity-path ns p ++ (entity-string ns x ∷ (version-path ns x w ++ (l ∷ [])))))
+  unfolding walk-bytes entity-bytes front-bytes
+  found-strings l =
+      let front : List Bytes = root h ns ∷ entity-path ns p in
+      let G = entity-string ns x in
+      let way = version-path ns x w in
+      ap (λ (y : ℕ). (((root h ns ++ joined (entity-path ns p)) ++ entity-string ns y) ++ joined (version-path ns y w)) ++ l) name
+      ∙ append-assoc (joined front ++ G) (joined way) l
+      ∙ ap (λ (b : Bytes). (joined front ++ G) ++ b) (ap (λ (b : Bytes). joined way ++ b) (sym (append-nil l)) ∙ sym (joined-append way (l ∷ [])))
+      ∙ sym (joined-behind front G (way ++ (l ∷ [])))
+
 module _ (work : Bytes) (n : ℕ) (r : Planned) where
-  entry-fits : (x : ℕ) (ns : List VersionNode) → Graphed work n ns → (entry : ℕ) → EntryIs ns x entry → (entry < n) × T (is-entry (node-in work entry))
-  entry-fits x ns G entry E =
-      (omega (arith, E .inside, G .number), subst (λ (m : VersionNode). T (is-entry m)) (sym (slot-node work ns entry (G .digested) (E .inside))) (E .enters))
+  -- the proof's strings are those of the plan
+  pub proof-strings : (h : Header) (q : Question) (ns : List VersionNode) (I : PlanIs work ns q r) → joined (proof h ns q .opened) ≡ joined (root h ns ∷ strings-of ns (q .entity) r)
+  unfolding proof
+  proof-strings h q ns I = ap (λ (w : Opened). joined (root h ns ∷ w .opened)) (I .is)
 
-  module _ (length′ : ℕ) (p : EntityPath) (e : r ≡ NoEntity length′ p) where
-    no-entity-path : (ns : List VersionNode) (q : Question) → PlanIs work ns q r → PathIs work ns p × (length′ ≡ 65 + 97 * p .depth)
+  path-at : (ns : List VersionNode) (q : Question) (z : Planned) → r ≡ z → PlanIs work ns q r → PathIs work ns (path-of z) × RestIs ns (q .entity) z
+  path-at ns q z e I = (subst (λ (y : Planned). PathIs work ns (path-of y)) e (I .path), subst (RestIs ns (q .entity)) e (I .rest))
+
+  module _ (size : ℕ) (p : EntityPath) (e : r ≡ NoEntity size p) where
+    no-entity-at : (ns : List VersionNode) (q : Question) → PlanIs work ns q r → PathIs work ns p × (size ≡ 65 + 97 * p .depth)
     unfolding path-of RestIs
-    no-entity-path ns q I = (subst (λ (z : Planned). PathIs work ns (path-of z)) e (I .path), subst (RestIs ns (q .entity)) e (I .rest))
+    no-entity-at ns q I = path-at ns q (NoEntity size p) e I
 
-    pub no-entity-ready : HasPlan work n r → (room : ℕ) → length-of r ≤ room → HasGraph work n × PathFits work p × (65 + 97 * p .depth ≤ room)
+    pub no-entity-ready : HasPlan work n r → (room : ℕ) → length-of r ≤ room → HasPath work n p × (65 + 97 * p .depth ≤ room)
     unfolding length-of
-    no-entity-ready H room h =
-        let I = no-entity-path (H .graph .ns) (H .q) (H .plan .of (H .graph .ns) (H .graph .graphed)) in
-        (H .graph, I .0 .fits, omega (arith, I .1, ap length-of e))
+    no-entity-ready H room l =
+        let I = no-entity-at (H .graph .ns) (H .q) (H .plan .of (H .graph .ns) (H .graph .graphed)) in
+        (record { graph = H .graph; path = I .0 }, omega (arith, I .1, ap length-of e))
 
-    pub no-entity-done : (h : Header) (out out1 : Bytes) → ((ns : List VersionNode) → Graphed work n ns → PathIs work ns p → out1 ≡ written out 0 (joined (root h ns ∷ entity-path ns p)))
+    pub no-entity-done : (h : Header) (out out1 : Bytes) → ((ns : List VersionNode) → Graphed work n ns → PathIs work ns p → out1 ≡ written out 0 (front-bytes h ns p))
         → (q : Question) → Plan work n q r → (ns : List VersionNode) → Graphed work n ns → out1 ≡ written out 0 (joined (proof h ns q .opened))
-    unfolding proof walk-of onto
+    unfolding strings-of front-bytes
     no-entity-done h out out1 f q P ns G =
         let I = P .of ns G in
-        f ns G (no-entity-path ns q I .0)
-        ∙ ap (written out 0)
-        (ap (λ (ss : List Bytes). joined (root h ns ∷ ss)) (sym (append-nil (entity-path ns p)))
-        ∙ ap (λ (w : Opened). joined (root h ns ∷ w .opened)) (sym (I .is ∙ ap (walk-of ns q) e)))
+        f ns G (no-entity-at ns q I .0) ∙ ap (written out 0) (sym (proof-strings h q ns I ∙ ap (λ (z : Planned). joined (root h ns ∷ strings-of ns (q .entity) z)) e))
 
-  module _ (length′ : ℕ) (p : EntityPath) (entry : ℕ) (e : r ≡ Unmet length′ p entry) where
-    unmet-path : (ns : List VersionNode) (q : Question) → PlanIs work ns q r → PathIs work ns p × EntryIs ns (q .entity) entry × (length′ ≡ 122 + 97 * p .depth)
+  module _ (size : ℕ) (p : EntityPath) (w : Way) (e : r ≡ Unmet size p w) where
+    unmet-at : (ns : List VersionNode) (q : Question) → PlanIs work ns q r → PathIs work ns p × WayIs ns (q .entity) p w × (size ≡ 122 + 97 * p .depth + 97 * w .depth)
     unfolding path-of RestIs
-    unmet-path ns q I =
-        let z = subst (RestIs ns (q .entity)) e (I .rest) in
-        (subst (λ (z : Planned). PathIs work ns (path-of z)) e (I .path), z .0, z .1)
+    unmet-at ns q I = let J = path-at ns q (Unmet size p w) e I in (J .0, J .1 .0, J .1 .1)
 
-    pub unmet-ready : HasPlan work n r → (room : ℕ) → length-of r ≤ room → PathFits work p × EntityFits work n entry 0 0 room (65 + 97 * p .depth)
-    unfolding length-of versions
-    unmet-ready H room h =
-        let G = H .graph .graphed in
-        let I = unmet-path (H .graph .ns) (H .q) (H .plan .of (H .graph .ns) G) in
-        let F = entry-fits (H .q .entity) (H .graph .ns) G entry (I .1) in (
-          I .0 .fits,
-          record {
-            graph = H .graph;
-            inside = F .0;
-            enters = F .1;
-            index-inside = λ ns K. let E = unmet-path ns (H .q) (H .plan .of ns K) .1 in some-version ns entry (K .entered) (E .inside) (E .enters);
-            shallow = omega arith;
-            space = omega (arith, I .2, ap length-of e);
-          },
-        )
+    unmet-way : (ns : List VersionNode) (q : Question) → PlanIs work ns q r → WayIs ns (reached-entity ns p) p w
+    unmet-way ns q I = let J = unmet-at ns q I .1 in subst (λ (y : ℕ). WayIs ns y p w) (sym (J .name)) J
 
-    pub unmet-done : (h : Header) (out out1 : Bytes) → ((ns : List VersionNode) → Graphed work n ns → PathIs work ns p → out1 ≡ written out 0 (front-bytes h ns p entry 0 0))
+    pub unmet-ready : HasPlan work n r → (room : ℕ) → length-of r ≤ room → HasWay work n p w × (122 + 97 * p .depth + 97 * w .depth ≤ room)
+    unfolding length-of
+    unmet-ready H room l =
+        let P = H .plan .of (H .graph .ns) (H .graph .graphed) in
+        let I = unmet-at (H .graph .ns) (H .q) P in
+        (record { graph = H .graph; path = I .0; way = unmet-way (H .graph .ns) (H .q) P }, omega (arith, I .2, ap length-of e))
+
+    pub unmet-done : (h : Header) (out out1 : Bytes)
+        → ((ns : List VersionNode) → Graphed work n ns → PathIs work ns p → WayIs ns (reached-entity ns p) p w → out1 ≡ written out 0 (walk-bytes h ns p w))
         → (q : Question) → Plan work n q r → (ns : List VersionNode) → Graphed work n ns → out1 ≡ written out 0 (joined (proof h ns q .opened))
-    unfolding proof walk-of onto front-bytes version-path
+    unfolding strings-of
     unmet-done h out out1 f q P ns G =
         let I = P .of ns G in
-        let J = unmet-path ns q I in
-        f ns G (J .0)
-        ∙ ap (written out 0)
-        (ap₂ (λ (ss : List Bytes) (y : ℕ). joined (root h ns ∷ entity-path ns p) ++ joined (entity-string ns y ∷ ss)) (path-none 0x4e (own versions-layout (versions ns (node-at ns entry .entity))) 0) (J .1 .entity)
-        ∙ sym (joined-append (root h ns ∷ entity-path ns p) (entity-string ns (q .entity) ∷ []))
-        ∙ ap (λ (w : Opened). joined (root h ns ∷ w .opened)) (sym (I .is ∙ ap (walk-of ns q) e)))
+        let J = unmet-at ns q I in
+        f ns G (J .0) (unmet-way ns q I)
+        ∙ ap (written out 0) (walk-strings h ns p (q .entity) (J .1 .name) w ∙ sym (proof-strings h q ns I ∙ ap (λ (z : Planned). joined (root h ns ∷ strings-of ns (q .entity) z)) e))
 
-  module _ (length′ : ℕ) (p : EntityPath) (entry slot index depth : ℕ) (e : r ≡ Found length′ p entry slot index depth) where
-    found-path : (ns : List VersionNode) (q : Question) → PlanIs work ns q r → PathIs work ns p × FoundIs ns (q .entity) entry slot index depth × (length′ ≡ 199 + 97 * p .depth + 97 * depth)
+  module _ (size : ℕ) (p : EntityPath) (w : Way) (slot : ℕ) (e : r ≡ Found size p w slot) where
+    found-at : (ns : List VersionNode) (q : Question) → PlanIs work ns q r → PathIs work ns p × WayIs ns (q .entity) p w × (slot < length ns) × (size ≡ 122 + 97 * p .depth + (97 * w .depth + 77))
     unfolding path-of RestIs
-    found-path ns q I =
-        let z = subst (RestIs ns (q .entity)) e (I .rest) in
-        (subst (λ (z : Planned). PathIs work ns (path-of z)) e (I .path), z .0, z .1)
+    found-at ns q I = let J = path-at ns q (Found size p w slot) e I in (J .0, J .1 .0, J .1 .1, J .1 .2)
 
-    found-here : (ns : List VersionNode) (q : Question) → PlanIs work ns q r → FoundIs ns (node-at ns entry .entity) entry slot index depth
-    found-here ns q I = let F = found-path ns q I .1 in subst (λ (y : ℕ). FoundIs ns y entry slot index depth) (sym (F .entry-is .entity)) F
+    found-way : (ns : List VersionNode) (q : Question) → PlanIs work ns q r → WayIs ns (reached-entity ns p) p w
+    found-way ns q I = let J = found-at ns q I .1 in subst (λ (y : ℕ). WayIs ns y p w) (sym (J .name)) J
 
-    pub found-ready : HasPlan work n r → (room : ℕ) → length-of r ≤ room
-        → PathFits work p × EntityFits work n entry index depth room (65 + 97 * p .depth) × (slot < n) × (199 + 97 * p .depth + 97 * depth ≤ room)
+    pub found-ready : HasPlan work n r → (room : ℕ) → length-of r ≤ room → HasWay work n p w × (slot < n) × (122 + 97 * p .depth + (97 * w .depth + 77) ≤ room)
     unfolding length-of
-    found-ready H room h =
-        let G = H .graph .graphed in
-        let I = found-path (H .graph .ns) (H .q) (H .plan .of (H .graph .ns) G) in
-        let F = entry-fits (H .q .entity) (H .graph .ns) G entry (I .1 .entry-is) in (
-          I .0 .fits,
-          record {
-            graph = H .graph;
-            inside = F .0;
-            enters = F .1;
-            index-inside = λ ns K. found-here ns (H .q) (H .plan .of ns K) .index-inside;
-            shallow = I .1 .shallow;
-            space = omega (arith, I .2, ap length-of e);
-          },
-          omega (arith, I .1 .slot-inside, G .number),
-          omega (arith, I .2, ap length-of e),
-        )
+    found-ready H room l =
+        let P = H .plan .of (H .graph .ns) (H .graph .graphed) in
+        let I = found-at (H .graph .ns) (H .q) P in
+        (record { graph = H .graph; path = I .0; way = found-way (H .graph .ns) (H .q) P }, omega (arith, I .2, H .graph .graphed .number), omega (arith, I .3, ap length-of e))
 
     pub found-done : (h : Header) (out out1 : Bytes)
-        → ((ns : List VersionNode) → Graphed work n ns → PathIs work ns p → FoundIs ns (node-at ns entry .entity) entry slot index depth → out1 ≡ written out 0 (front-bytes h ns p entry index depth ++ leaf-string (version-at ns slot .leaf)))
+        → ((ns : List VersionNode) → Graphed work n ns → PathIs work ns p → WayIs ns (reached-entity ns p) p w → out1 ≡ written out 0 (walk-bytes h ns p w ++ leaf-string (version-at ns slot .leaf)))
         → (q : Question) → Plan work n q r → (ns : List VersionNode) → Graphed work n ns → out1 ≡ written out 0 (joined (proof h ns q .opened))
-    unfolding proof walk-of onto front-bytes
+    unfolding strings-of
     found-done h out out1 f q P ns G =
         let I = P .of ns G in
-        let J = found-path ns q I in
-        let leaf = leaf-string (version-at ns slot .leaf) in
-        let front : List Bytes = root h ns ∷ entity-path ns p in
-        let behind : List Bytes = entity-string ns (q .entity) ∷ version-path ns (q .entity) index depth in
-        f ns G (J .0) (found-here ns q I)
+        let J = found-at ns q I in
+        f ns G (J .0) (found-way ns q I)
         ∙ ap (written out 0)
-        (ap (λ (y : ℕ). (joined front ++ joined (entity-string ns y ∷ version-path ns y index depth)) ++ leaf) (J .1 .entry-is .entity)
-        ∙ append-assoc (joined front) (joined behind) leaf
-        ∙ ap (λ (b : Bytes). joined front ++ (joined behind ++ b)) (sym (append-nil leaf))
-        ∙ ap (λ (b : Bytes). joined front ++ b) (sym (joined-append behind (leaf ∷ [])))
-        ∙ sym (joined-append front (behind ++ (leaf ∷ [])))
-        ∙ ap (λ (w : Opened). joined (root h ns ∷ w .opened)) (sym (I .is ∙ ap (walk-of ns q) e)))
+        (found-strings h ns p (q .entity) (J .1 .name) w (leaf-string (version-at ns slot .leaf)) ∙ sym (proof-strings h q ns I ∙ ap (λ (z : Planned). joined (root h ns ∷ strings-of ns (q .entity) z)) e))

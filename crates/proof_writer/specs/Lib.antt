@@ -1,4 +1,4 @@
 -- What the contracts of this crate cite.
-pub mod StoredLeaves
 pub mod Walks
+pub mod Spans
 pub mod Plans

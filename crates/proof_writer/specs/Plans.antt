@@ -1,21 +1,21 @@
 -- What a plan of an answer's proof says, and what writing it asks for. Assumes nothing.
 use mathlib.Core.Path.{_≡_}
-use mathlib.Core.List.{List, _∷_, _++_}
+use mathlib.Core.List.{List, [], _∷_, _++_}
 use Prim.Native.Nat.{ℕ, _+_, _*_, _≤_, _<_}
-use lib.Dec.{T}
-use lib.ListN.{length}
-use Rattle.fields.specs.Fields.{written}
+use lib.ListN.{length, getD}
 use Rattle.model.specs.Numbers.{Bytes, joined}
-use Rattle.model.specs.Graph.{VersionNode, node-at}
-use Rattle.model.specs.Accumulator.{letter-N, letter-P, subtree, VersionLeaf, versions-layout, entities-layout, group, version-leaves, is-entry, entity-tree, leaf-string, Header, root}
-use Rattle.model.specs.Question.{Question, no-entity, SearchEnd, by-time, Opened, stop, after, open-versions, open-entities}
-use Rattle.graph.specs.Table.{node-in}
-use Rattle.accumulator.specs.Halves.{path-to}
+use Rattle.model.specs.Graph.{VersionNode}
+use Rattle.model.specs.Accumulator.{letter-N, letter-P, VersionLeaf, versions-layout, entities-layout, entities, group, version-leaves, entity-tree, leaf-string, Header, root}
+use Rattle.model.specs.Question.{Question, Stop, no-entity, SearchEnd, after, open-versions, open-entities}
+use Rattle.accumulator.specs.Halves.{own, path-to}
+use Rattle.trees.specs.Tables.{Graphed, HasGraph, groups, versions, version-at}
+use Rattle.ranks.specs.declared.Ranks.{Ranks}
+use Rattle.ranks.specs.Ranked.{RankedAs}
+use Rattle.kept_trees.specs.Kept.{TreesKept}
+use Rattle.proof_writer.specs.declared.Way.{Way}
 use Rattle.proof_writer.specs.declared.EntityPath.{EntityPath}
 use Rattle.proof_writer.specs.declared.Planned.{Planned}
 use Rattle.proof_writer.specs.declared.Planned.the-variants.{NoEntity, Unmet, Found}
-use Rattle.trees.specs.Tables.{Graphed, HasGraph}
-use Rattle.proof_writer.specs.StoredLeaves.{own, LeavesStored, HasLeaves, groups, versions, version-at}
 use Rattle.proof_writer.specs.Walks.{onto}
 
 -- ---- strings
@@ -27,96 +27,86 @@ entity-path ns p = path-to letter-P (own entities-layout (groups ns)) (p .target
 unfoldable pub entity-string : List VersionNode → ℕ → Bytes
 entity-string ns x = entities-layout .string (group (version-leaves ns) x)
 
-unfoldable pub version-path : List VersionNode → ℕ → ℕ → ℕ → List Bytes
-version-path ns x index depth = path-to letter-N (own versions-layout (versions ns x)) index depth
+unfoldable pub version-path : List VersionNode → ℕ → Way → List Bytes
+version-path ns x w = path-to letter-N (own versions-layout (versions ns x)) (w .target) (w .depth)
 
--- R, the strings P, G and the strings N; a version enters the entity
-unfoldable pub front-bytes : Header → List VersionNode → EntityPath → ℕ → ℕ → ℕ → Bytes
-front-bytes h ns p entry index depth =
-    let x = node-at ns entry .entity in
-    joined (root h ns ∷ entity-path ns p) ++ joined (entity-string ns x ∷ version-path ns x index depth)
+-- the entity that a path leads to
+abbrev pub reached-entity : List VersionNode → EntityPath → ℕ
+reached-entity ns p = getD (entities ns) (p .target) 0
+
+-- the strings behind R, of a proof about entity x
+unfoldable pub strings-of : List VersionNode → ℕ → Planned → List Bytes
+strings-of ns x (NoEntity size p) = entity-path ns p
+strings-of ns x (Unmet size p w) = entity-path ns p ++ (entity-string ns x ∷ version-path ns x w)
+strings-of ns x (Found size p w slot) = entity-path ns p ++ (entity-string ns x ∷ (version-path ns x w ++ (leaf-string (version-at ns slot .leaf) ∷ [])))
 
 -- ---- a plan
 
 unfoldable pub path-of : Planned → EntityPath
-path-of (NoEntity length p) = p
-path-of (Unmet length p entry) = p
-path-of (Found length p entry slot index depth) = p
+path-of (NoEntity size p) = p
+path-of (Unmet size p w) = p
+path-of (Found size p w slot) = p
 
 -- the length of the proof
 unfoldable pub length-of : Planned → ℕ
-length-of (NoEntity length p) = length
-length-of (Unmet length p entry) = length
-length-of (Found length p entry slot index depth) = length
-
--- the stop where no version of the entity meets the time, by what is known of the entity's tree
-unfoldable pub unmet-end : List VersionNode → Question → SearchEnd VersionLeaf
-unmet-end ns q = SearchEnd.not-found (by-time (q .relation) (q .time) .stop-at (subtree versions-layout (group (version-leaves ns) (q .entity) .versions)))
+length-of (NoEntity size p) = size
+length-of (Unmet size p w) = size
+length-of (Found size p w slot) = size
 
 -- how the proof ends
-unfoldable pub end-of : List VersionNode → Question → Planned → SearchEnd VersionLeaf
-end-of ns q (NoEntity length p) = SearchEnd.not-found no-entity
-end-of ns q (Unmet length p entry) = unmet-end ns q
-end-of ns q (Found length p entry slot index depth) = SearchEnd.found (version-at ns slot)
+unfoldable pub EndIs : List VersionNode → Planned → SearchEnd VersionLeaf → Type 0
+EndIs ns (NoEntity size p) e = e ≡ SearchEnd.not-found no-entity
+EndIs ns (Unmet size p w) e = (s : Stop) × (e ≡ SearchEnd.not-found s)
+EndIs ns (Found size p w slot) e = e ≡ SearchEnd.found (version-at ns slot)
 
--- what the walk opens below R
-unfoldable pub walk-of : List VersionNode → Question → Planned → Opened
-walk-of ns q (NoEntity length p) = onto (entity-path ns p) (stop (SearchEnd.not-found no-entity))
-walk-of ns q (Unmet length p entry) = onto (entity-path ns p) (after (entity-string ns (q .entity)) (stop (unmet-end ns q)))
-walk-of ns q (Found length p entry slot index depth) =
-    onto (entity-path ns p)
-    (after (entity-string ns (q .entity))
-    (onto (version-path ns (q .entity) index depth) (after (leaf-string (version-at ns slot .leaf)) (stop (SearchEnd.found (version-at ns slot))))))
-
--- there are leaves, and the way leads to one of them; the leaves are those of the entities
-pub record PathFits (work : Bytes) (p : EntityPath) : Type 0 where
-  pub has-leaves : HasLeaves work (p .count)
-  pub inside : p .target < p .count
-  pub shallow : p .depth ≤ 65535
-
+-- the trees of the graph are kept, and the way leads to one of the entities
 pub record PathIs (work : Bytes) (ns : List VersionNode) (p : EntityPath) : Type 0 where
-  pub fits : PathFits work p
-  pub stored : LeavesStored entities-layout work (groups ns) (p .count)
+  pub ranked : RankedAs work ns (p .ranks)
+  pub kept : TreesKept work (p .ranks)
+  pub inside : p .target < p .ranks .entities
+  pub shallow : p .depth ≤ 65535
   pub long : length (joined (entity-path ns p)) ≡ 97 * p .depth
 
--- the version that enters entity x
-pub record EntryIs (ns : List VersionNode) (x entry : ℕ) : Type 0 where
-  pub inside : entry < length ns
-  pub enters : T (is-entry (node-at ns entry))
-  pub entity : node-at ns entry .entity ≡ x
-
-pub record FoundIs (ns : List VersionNode) (x entry slot index depth : ℕ) : Type 0 where
-  pub entry-is : EntryIs ns x entry
-  pub slot-inside : slot < length ns
-  pub index-inside : index < length (versions ns x)
-  pub shallow : depth ≤ 65535
-  pub long : length (joined (version-path ns x index depth)) ≡ 97 * depth
+-- to entity x, and on to one of its versions
+pub record WayIs (ns : List VersionNode) (x : ℕ) (p : EntityPath) (w : Way) : Type 0 where
+  pub name : getD (entities ns) (p .target) 0 ≡ x
+  pub inside : w .target < length (versions ns x)
+  pub shallow : w .depth ≤ 65535
+  pub long : length (joined (version-path ns x w)) ≡ 97 * w .depth
 
 unfoldable pub RestIs : List VersionNode → ℕ → Planned → Type 0
-RestIs ns x (NoEntity length p) = length ≡ 65 + 97 * p .depth
-RestIs ns x (Unmet length p entry) = EntryIs ns x entry × (length ≡ 122 + 97 * p .depth)
-RestIs ns x (Found length p entry slot index depth) = FoundIs ns x entry slot index depth × (length ≡ 199 + 97 * p .depth + 97 * depth)
+RestIs ns x (NoEntity size p) = size ≡ 65 + 97 * p .depth
+RestIs ns x (Unmet size p w) = WayIs ns x p w × (size ≡ 122 + 97 * p .depth + 97 * w .depth)
+RestIs ns x (Found size p w slot) = WayIs ns x p w × (slot < length ns) × (size ≡ 122 + 97 * p .depth + (97 * w .depth + 77))
 
 pub record PlanIs (work : Bytes) (ns : List VersionNode) (q : Question) (r : Planned) : Type 0 where
   pub path : PathIs work ns (path-of r)
   pub rest : RestIs ns (q .entity) r
-  pub is : open-entities q (entity-tree ns) ≡ walk-of ns q r
+  pub end : SearchEnd VersionLeaf
+  pub ends : EndIs ns r end
+  pub is : open-entities q (entity-tree ns) ≡ record { end = end; opened = strings-of ns (q .entity) r }
 
 -- a plan of the proof for a question, over a table of n versions
 pub record Plan (work : Bytes) (n : ℕ) (q : Question) (r : Planned) : Type 0 where
   pub of : (ns : List VersionNode) → Graphed work n ns → PlanIs work ns q r
 
--- what planning asks for once the entity's leaf is reached
-pub record HasEntity (work : Bytes) (n x : ℕ) : Type 0 where
+-- ---- planning
+
+-- ranks and kept trees of the table's graph
+pub record HasTrees (work : Bytes) (n : ℕ) (r : Ranks) : Type 0 where
   pub graph : HasGraph work n
-  pub at : ℕ
-  pub inside : at < n
-  pub enters : T (is-entry (node-in work at))
-  pub entity : node-in work at .entity ≡ x
+  pub ranked : RankedAs work (graph .ns) r
+  pub kept : TreesKept work r
+
+-- and a way that leads to one of the entities
+pub record HasPath (work : Bytes) (n : ℕ) (p : EntityPath) : Type 0 where
+  pub graph : HasGraph work n
+  pub path : PathIs work (graph .ns) p
 
 -- the walk goes on in the entity's tree
 pub record Reaches (work : Bytes) (ns : List VersionNode) (q : Question) (p : EntityPath) : Type 0 where
   pub path : PathIs work ns p
+  pub name : reached-entity ns p ≡ q .entity
   pub is : open-entities q (entity-tree ns)
       ≡ onto (entity-path ns p) (after (entity-string ns (q .entity)) (open-versions (q .relation) (q .time) (group (version-leaves ns) (q .entity) .versions)))
 
@@ -128,16 +118,18 @@ pub record HasPlan (work : Bytes) (n : ℕ) (r : Planned) : Type 0 where
   pub q : Question
   pub plan : Plan work n q r
 
--- room for G and for strings N on the way to a leaf of the entity that a version enters
-pub record EntityFits (work : Bytes) (n entry index depth room at : ℕ) : Type 0 where
+-- a way that leads to an entity and on to one of its versions
+pub record HasWay (work : Bytes) (n : ℕ) (p : EntityPath) (w : Way) : Type 0 where
   pub graph : HasGraph work n
-  pub inside : entry < n
-  pub enters : T (is-entry (node-in work entry))
-  pub index-inside : (ns : List VersionNode) → Graphed work n ns → index < length (versions ns (node-at ns entry .entity))
-  pub shallow : depth ≤ 65535
-  pub space : at + 57 + 97 * depth ≤ room
+  pub path : PathIs work (graph .ns) p
+  pub way : WayIs (graph .ns) (reached-entity (graph .ns) p) p w
 
--- G and the strings N are written
-pub record EntityPut (ns : List VersionNode) (x index depth : ℕ) (out out′ : Bytes) (at : ℕ) : Type 0 where
-  pub strings : out′ ≡ written out at (joined (entity-string ns x ∷ version-path ns x index depth))
-  pub short : length (joined (version-path ns x index depth)) ≤ 97 * depth
+-- R and the strings P; G too; and the strings N
+unfoldable pub front-bytes : Header → List VersionNode → EntityPath → Bytes
+front-bytes h ns p = joined (root h ns ∷ entity-path ns p)
+
+unfoldable pub entity-bytes : Header → List VersionNode → EntityPath → Bytes
+entity-bytes h ns p = front-bytes h ns p ++ entity-string ns (reached-entity ns p)
+
+unfoldable pub walk-bytes : Header → List VersionNode → EntityPath → Way → Bytes
+walk-bytes h ns p w = entity-bytes h ns p ++ joined (version-path ns (reached-entity ns p) w)

@@ -9,6 +9,7 @@ use Rattle.question.specs.declared.Part.the-variants.{VersionOnly, Trace
 use Rattle.question.specs.declared.Relation.{Relation}
 use Rattle.question.specs.declared.Relation.the-variants.{AtOrBefore, AtOrAfter}
 use Rattle.question.specs.declared.Question.{Question}
+use Rattle.question.specs.declared.SpanQuestion.{SpanQuestion}
 use Rattle.question.specs.declared.Asked.{Asked}
 use Rattle.question.specs.declared.Asked.the-variants.{Known, Unknown}
 use Rattle.question.specs.Ways.{wayOf}
@@ -23,6 +24,9 @@ relationOf AtOrAfter = model.at-or-after
 
 abbrev pub questionOf : Question → model.Question
 questionOf q = model.asked (relationOf (q .relation)) (partOf (q .part)) (q .entity .0) (q .time .0)
+
+abbrev pub spanOf : SpanQuestion → model.SpanQuestion
+spanOf p = model.spanned (p .entity .0) (p .from .0) (p .to .0)
 
 -- "Directions 3, 4 and 5 are 0, 1 and 2 for the version with the least time at or after t": the part of n and of n + 3
 pub record PartIs (n : ℕ) (p : Part) : Type 0 where

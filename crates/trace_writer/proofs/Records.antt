@@ -14,11 +14,11 @@ use Rattle.model.specs.Numbers.{Bytes, joined}
 use Rattle.model.specs.Graph.{InEdge, temporal, dependency, VersionNode, node-at}
 use Rattle.model.specs.Question as question
 use Rattle.model.specs.Trace.{position-in, edges-inside, node-inside, induced-subgraph, trace-versions, trace, trace-letter, entry-letter, one-edge-string, record-string-by, record-string, record-strings, trace-string}
-use Rattle.model.proofs.Strings.{none, num, joined-length}
+use Rattle.model.proofs.Strings.{joined-append, none, num, joined-length}
 use Rattle.graph.specs.Table.{absent, node-in, nodes-in, columns, Kept, Ready}
 use Rattle.graph.proofs.Slots.{kept-then, kept-also, kept-first}
 use Rattle.graph.proofs.Nodes.{map-length, node-at-nodes, nodes-kept}
-use Rattle.graph.proofs.Strings.{joined-append, previous-before, source-before}
+use Rattle.graph.proofs.Strings.{previous-before, source-before}
 use Rattle.marks.specs.Marks.{is-marked}
 use Rattle.trace_writer.specs.Marks.{position-column, is-inside, slot-position, members, MarksDone, PositionsDone, Positioned, Prepared}
 use Rattle.trace_writer.specs.Texts.{slot-edges, record-with, slot-string, slot-strings, slots-trace, Width, TraceLength}

@@ -1,79 +1,39 @@
 use borrow.Author.Needs.{needs}
 use denote.Ref.{now}
-use mathlib.Core.Path.{refl}
-use Rattle.proof_writer.proofs.Planning.{plan-kept, absent-shallow, present-ready, planned-absent, planned-present}
+use Rattle.proof_writer.proofs.Planning.{plan-kept, ranked-after, has-trees}
+use native.Mathlib.Omega.{arith}
+use borrow.Author.Needs.{needs}
 use Rattle.proof_writer.proofs.plan.Statement.{statement}
 use Rattle.proof_writer.proofs.plan.Tie as tie
+use Rattle.proof_writer.proofs.plan.Reads as reads
 
-put-entity-leaves-requires : tie.Need-put-entity-leaves-requires
-put-entity-leaves-requires c κs = search needs
+rank-all-requires : tie.Need-rank-all-requires
+rank-all-requires c κs = c .before .before .pre .0
 
-seek-entity-requires : tie.Need-seek-entity-requires
-seek-entity-requires c κs =
-    let s = c .before .before .before .before .before .before in
-    c .before .before .before .put-entity-leaves .ensures (s .pre .0 .ns) (s .pre .0 .graphed) .has-leaves
-
-enum-known-target : tie.Need-enum-known-target
-enum-known-target c = search needs
-
-mul-t17 : tie.Need-mul-t17
-mul-t17 c =
-    let s = c .before .before .before .before .before .before .before .before .before .before in
-    let stored = c .before .before .before .before .before .before .before .put-entity-leaves .ensures in
-    let sought = c .before .before .before .seek-entity .ensures in
-    let few = absent-shallow (now (s .args .work)) _ _ _ (s .pre .0) stored _ _ sought _ _ (c .before .target .given .1) in
-    search needs
-
-add-t18 : tie.Need-add-t18
-add-t18 c =
-    let s = c .before .before .before .before .before .before .before .before .before .before in
-    let stored = c .before .before .before .before .before .before .before .put-entity-leaves .ensures in
-    let sought = c .before .before .before .seek-entity .ensures in
-    let few = absent-shallow (now (s .args .work)) _ _ _ (s .pre .0) stored _ _ sought _ _ (c .before .target .given .1) in
-    search needs
-
-enum-known-target-2 : tie.Need-enum-known-target-2
-enum-known-target-2 c = search needs
+keep-trees-requires : tie.Need-keep-trees-requires
+keep-trees-requires c κs =
+    let H = c .before .before .before .before .before .before .pre .0 in
+    (c .before .before .before .rank-all .ensures .0 (H .ns) (H .graphed) .ranked, c .before .before .before .before .before .before .pre .1)
 
 plan-entity-requires : tie.Need-plan-entity-requires
 plan-entity-requires c κs =
-    let s = c .before .before .before .before .before .before .before .before .before .before .before in
-    let stored = c .before .before .before .before .before .before .before .before .put-entity-leaves .ensures in
-    let sought = c .before .before .before .before .seek-entity .ensures in
-    present-ready (now (s .args .work)) _ _ _ (s .pre .0) stored _ _ sought _ _ (c .before .before .target2 .given .1)
+    let s = c .before .before .before .before .before .before .before .before .before .before in
+    has-trees (now (s .args .work)) _ _ _ _ (s .pre .0) (c .before .before .before .before .before .before .before .rank-all .ensures .0) (c .before .before .before .before .before .before .before .rank-all .ensures .1) (c .before .before .before .keep-trees .ensures .0) (c .before .before .before .keep-trees .ensures .1)
 
 same-length : tie.Need-same-length
-same-length c = search needs
+same-length c =
+    let s = c .before .before .before .before .before .before .before .before .before .before .before in
+    plan-kept (now (s .args .work)) _ _ _ _ (s .pre .0) (c .before .before .before .before .before .before .before .before .rank-all .ensures .0) (c .before .before .before .before .before .before .before .before .rank-all .ensures .1) (c .before .before .before .before .keep-trees .ensures .0) (c .before .before .before .before .keep-trees .ensures .1) .size
 
 returns : tie.Need-returns
 returns c =
-    let s = c .before .before .before .before .before .before .before .before .before .before in
-    let stored = c .before .before .before .before .before .before .before .put-entity-leaves .ensures in
-    let sought = c .before .before .before .seek-entity .ensures in
-    (planned-absent (now (s .args .work)) _ _ _ (s .pre .0) stored _ _ sought _ _ (c .before .target .given .1) _ refl, plan-kept (now (s .args .work)) _ _ _ (s .pre .0) stored)
-
-same-length-2 : tie.Need-same-length-2
-same-length-2 c = search needs
-
-returns-2 : tie.Need-returns-2
-returns-2 c =
-    let s = c .before .before .before .before .before .before .before .before .before .before .before .before in
-    let stored = c .before .before .before .before .before .before .before .before .before .put-entity-leaves .ensures in
-    let sought = c .before .before .before .before .before .seek-entity .ensures in
-    (planned-present (now (s .args .work)) _ _ _ (s .pre .0) stored _ _ sought _ _ (c .before .before .before .target2 .given .1) _ (c .plan-entity .ensures), plan-kept (now (s .args .work)) _ _ _ (s .pre .0) stored)
+    let s = c .before .before .before .before .before .before .before .before .before .before .before in
+    let after = ranked-after (now (s .args .work)) _ _ _ _ (s .pre .0) (c .before .before .before .before .before .before .before .before .rank-all .ensures .0) (c .before .before .before .before .before .before .before .before .rank-all .ensures .1) (c .before .before .before .before .keep-trees .ensures .0) (c .before .before .before .before .keep-trees .ensures .1) in (
+      record { of = λ ns G. c .plan-entity .ensures ns G (after ns G) },
+      plan-kept (now (s .args .work)) _ _ _ _ (s .pre .0) (c .before .before .before .before .before .before .before .before .rank-all .ensures .0) (c .before .before .before .before .before .before .before .before .rank-all .ensures .1) (c .before .before .before .before .keep-trees .ensures .0) (c .before .before .before .before .keep-trees .ensures .1),
+    )
 
 pub plan-spec : {M : Type 1} → statement M
 plan-spec =
     tie.close
-    (tie.spec
-    put-entity-leaves-requires
-    seek-entity-requires
-    enum-known-target
-    mul-t17
-    add-t18
-    enum-known-target-2
-    plan-entity-requires
-    same-length
-    returns
-    same-length-2
-    returns-2)
+    (tie.spec rank-all-requires keep-trees-requires plan-entity-requires same-length returns)

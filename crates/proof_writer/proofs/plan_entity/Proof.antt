@@ -1,94 +1,80 @@
 use borrow.Author.Needs.{needs}
-use native.Mathlib.Omega.{arith}
 use denote.Ref.{now}
 use mathlib.Core.Path.{refl}
-use Rattle.proof_writer.proofs.Planning.{entity-version, first-enters, first-entry, index-inside, plan-unmet, plan-found}
+use Rattle.question.specs.Directions.{questionOf}
+use Rattle.kept_trees.proofs.Graphs.{entities-are}
+use Rattle.proof_writer.proofs.Seeking.{stopped-leads, reached-leads, sought-stopped, sought-reached, entity-sought}
+use Rattle.proof_writer.proofs.Planning.{inside-group, plan-absent, reaches}
+use native.Mathlib.Omega.{arith}
+use borrow.Author.Needs.{needs}
 use Rattle.proof_writer.proofs.plan_entity.Statement.{statement}
 use Rattle.proof_writer.proofs.plan_entity.Tie as tie
+use Rattle.proof_writer.proofs.plan_entity.Reads as reads
 
-first-version-requires : tie.Need-first-version-requires
-first-version-requires c κs = entity-version _ _ _ (c .before .pre .0)
+seek-requires : tie.Need-seek-requires
+seek-requires c κs =
+    let H = c .before .before .pre in
+    (H .ranked .ranked, H .ranked .ranked .some-entity, omega arith)
 
-count-versions-requires : tie.Need-count-versions-requires
-count-versions-requires c κs = first-enters _ _ _ (c .before .before .pre .0) _ (c .first-version .ensures)
+enum-known-target : tie.Need-enum-known-target
+enum-known-target c = search needs
 
-mul-length : tie.Need-mul-length
-mul-length c = search needs
+mul-t14 : tie.Need-mul-t14
+mul-t14 c =
+    let H = c .before .before .before .before .before .before .pre in
+    let l = stopped-leads _ _ (c .before .before .before .seek .ensures .0) _ _ (c .before .target .given .1) in
+    omega (arith, l .1, H .ranked .ranked .fewer, H .ranked .ranked .few)
 
-add-length : tie.Need-add-length
-add-length c = search needs
+add-t15 : tie.Need-add-t15
+add-t15 c =
+    let H = c .before .before .before .before .before .before .pre in
+    let l = stopped-leads _ _ (c .before .before .before .seek .ensures .0) _ _ (c .before .target .given .1) in
+    omega (arith, l .1, H .ranked .ranked .fewer, H .ranked .ranked .few)
 
-enum-told : tie.Need-enum-told
-enum-told c = search needs
+enum-known-target-2 : tie.Need-enum-known-target-2
+enum-known-target-2 c = search needs
 
-enum-known-nearest : tie.Need-enum-known-nearest
-enum-known-nearest c = search needs
-
-leaf-depth-requires : tie.Need-leaf-depth-requires
-leaf-depth-requires c κs =
-    let s = c .before .before .before .before .before .before .before in
-    let R = s .pre .0 .graph in
-    let e = c .before .before .before .before .count-versions .ensures (R .ns) (R .graphed) in
-    (index-inside _ _ _ _ _ e _ _ (c .before .nearest .given .1), omega (arith, e .few, R .graphed .digested .few))
-
-mul-t15 : tie.Need-mul-t15
-mul-t15 c =
-    let s = c .before .before .before .before .before .before .before .before in
-    let R = s .pre .0 .graph in
-    let e = c .before .before .before .before .before .count-versions .ensures (R .ns) (R .graphed) in
-    let d = c .leaf-depth .ensures .shallow in
-    let few = e .few in
-    let most = R .graphed .digested .few in
-    search needs
-
-add-t16 : tie.Need-add-t16
-add-t16 c =
-    let s = c .before .before .before .before .before .before .before .before in
-    let R = s .pre .0 .graph in
-    let e = c .before .before .before .before .before .count-versions .ensures (R .ns) (R .graphed) in
-    let d = c .leaf-depth .ensures .shallow in
-    let few = e .few in
-    let most = R .graphed .digested .few in
-    search needs
-
-add-t17 : tie.Need-add-t17
-add-t17 c =
-    let s = c .before .before .before .before .before .before .before .before in
-    let R = s .pre .0 .graph in
-    let e = c .before .before .before .before .before .count-versions .ensures (R .ns) (R .graphed) in
-    let d = c .leaf-depth .ensures .shallow in
-    let few = e .few in
-    let most = R .graphed .digested .few in
-    search needs
+plan-versions-requires : tie.Need-plan-versions-requires
+plan-versions-requires c κs =
+    let s = c .before .before .before .before .before .before in
+    let a = s .args in
+    let H = s .pre in
+    let l = reached-leads _ _ (c .before .before .before .seek .ensures .0) _ _ (c .before .target2 .given .1) in
+    let E = entities-are (now (a .work)) (H .graph .ns) (H .graph .graphed .digested) (a .ranks) (H .ranked) in
+    let S = sought-reached _ _ _ _ _ _ (entity-sought _ _ _ _ _ _ (c .before .before .before .seek .ensures .1 _ E (inside-group (questionOf (a .question))))) _ _ (c .before .target2 .given .1) in
+    record { graph = H .graph; path = reaches (now (a .work)) _ (H .graph .ns) (H .graph .graphed) (a .ranks) (H .ranked) (H .kept) _ _ (l .0) (l .1) (questionOf (a .question)) S .path }
 
 returns : tie.Need-returns
 returns c =
     let s = c .before .before .before .before .before .before in
-    λ ns G R. plan-unmet (now (s .args .work)) ns _ _ R _ (first-entry _ _ _ (s .pre .0) _ (c .before .before .before .before .first-version .ensures) ns G) _ (c .before .before .before .count-versions .ensures ns G) _ refl (c .enum-told .given .1)
+    let a = s .args in
+    let H = s .pre in
+    let l = stopped-leads _ _ (c .before .before .before .seek .ensures .0) _ _ (c .before .target .given .1) in
+    λ ns G R.
+    let E = entities-are (now (a .work)) ns (G .digested) (a .ranks) R in
+    plan-absent (now (a .work)) _ ns G (a .ranks) R (H .kept) _ _ (l .0) (l .1) (questionOf (a .question)) _
+    (sought-stopped _ _ _ _ _ _ (entity-sought _ _ _ _ _ _ (c .before .before .before .seek .ensures .1 _ E (inside-group (questionOf (a .question))))) _ _ (c .before .target .given .1)) refl
 
 returns-2 : tie.Need-returns-2
 returns-2 c =
-    let s = c .before .before .before .before .before .before .before .before in
-    let R = s .pre .0 .graph in
-    let e = c .before .before .before .before .before .count-versions .ensures (R .ns) (R .graphed) in
-    let d = c .leaf-depth .ensures .shallow in
-    let few = e .few in
-    let most = R .graphed .digested .few in
-    λ ns G H. plan-found (now (s .args .work)) ns _ _ H _ (first-entry _ _ _ (s .pre .0) _ (c .before .before .before .before .before .before .first-version .ensures) ns G) _ (c .before .before .before .before .before .count-versions .ensures ns G) _ _ _ _ (c .before .before .nearest .given .1) (c .leaf-depth .ensures) (omega arith) refl
+    let s = c .before .before .before .before .before .before .before in
+    let a = s .args in
+    let H = s .pre in
+    let l = reached-leads _ _ (c .before .before .before .before .seek .ensures .0) _ _ (c .before .before .target2 .given .1) in
+    λ ns G R.
+    let E = entities-are (now (a .work)) ns (G .digested) (a .ranks) R in
+    let S = sought-reached _ _ _ _ _ _ (entity-sought _ _ _ _ _ _ (c .before .before .before .before .seek .ensures .1 _ E (inside-group (questionOf (a .question))))) _ _ (c .before .before .target2 .given .1) in
+    c .plan-versions .ensures ns G (reaches (now (a .work)) _ ns G (a .ranks) R (H .kept) _ _ (l .0) (l .1) (questionOf (a .question)) S)
 
 pub plan-entity-spec : {M : Type 1} → statement M
 plan-entity-spec =
     tie.close
     (tie.spec
-    first-version-requires
-    count-versions-requires
-    mul-length
-    add-length
-    enum-told
-    enum-known-nearest
-    leaf-depth-requires
-    mul-t15
-    add-t16
-    add-t17
+    seek-requires
+    enum-known-target
+    mul-t14
+    add-t15
+    enum-known-target-2
+    plan-versions-requires
     returns
     returns-2)

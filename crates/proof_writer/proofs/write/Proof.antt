@@ -1,70 +1,60 @@
 use borrow.Author.Needs.{needs}
 use denote.Ref.{now}
-use mathlib.Core.List.{[], _∷_}
-use Rattle.graph.specs.Table.{columns}
-use Rattle.graph.proofs.Slots.{kept-none}
-use Rattle.proof_writer.proofs.Writing.{no-entity-ready, unmet-ready, found-ready, no-entity-done, unmet-done, found-done}
+use Rattle.accumulator.specs.Trees.{headerOf}
+use Rattle.proof_writer.proofs.Writing.{no-entity-ready, no-entity-done, unmet-ready, unmet-done, found-ready, found-done}
+use native.Mathlib.Omega.{arith}
+use borrow.Author.Needs.{needs}
 use Rattle.proof_writer.proofs.write.Statement.{statement}
 use Rattle.proof_writer.proofs.write.Tie as tie
+use Rattle.proof_writer.proofs.write.Reads as reads
 
 enum-known-plan : tie.Need-enum-known-plan
 enum-known-plan c = search needs
 
 put-front-requires : tie.Need-put-front-requires
 put-front-requires c κs =
-    let s = c .before .before .before .before .before .before .before in
-    (no-entity-ready (now (s .args .work)) _ _ _ _ (c .before .before .before .plan .given .1) (s .pre .0 .0) _ (s .pre .0 .1), s .pre .1)
+    let s = c .before .before .before .before .before .before in
+    (no-entity-ready (now (s .args .work)) _ (s .args .plan) _ _ (c .before .before .plan .given .1) (s .pre .0 .0) _ (s .pre .0 .1), s .pre .1)
 
 enum-known-plan-2 : tie.Need-enum-known-plan-2
 enum-known-plan-2 c = search needs
 
 put-walk-requires : tie.Need-put-walk-requires
 put-walk-requires c κs =
-    let s = c .before .before .before .before .before .before .before in
-    (unmet-ready (now (s .args .work)) _ _ _ _ _ (c .before .before .before .plan2 .given .1) (s .pre .0 .0) _ (s .pre .0 .1), s .pre .1)
+    let s = c .before .before .before .before .before .before in
+    (unmet-ready (now (s .args .work)) _ (s .args .plan) _ _ _ (c .before .before .plan2 .given .1) (s .pre .0 .0) _ (s .pre .0 .1), s .pre .1)
 
 enum-known-plan-3 : tie.Need-enum-known-plan-3
 enum-known-plan-3 c = search needs
 
 put-found-requires : tie.Need-put-found-requires
 put-found-requires c κs =
-    let s = c .before .before .before .before .before .before .before in
-    (found-ready (now (s .args .work)) _ _ _ _ _ _ _ _ (c .before .before .before .plan3 .given .1) (s .pre .0 .0) _ (s .pre .0 .1), s .pre .1)
+    let s = c .before .before .before .before .before .before in
+    (found-ready (now (s .args .work)) _ (s .args .plan) _ _ _ _ (c .before .before .plan3 .given .1) (s .pre .0 .0) _ (s .pre .0 .1), s .pre .1)
 
 same-length : tie.Need-same-length
 same-length c = search needs
 
+returns : tie.Need-returns
+returns c =
+    let s = c .before .before .before .before .before .before .before .before .before in
+    no-entity-done (now (s .args .work)) _ (s .args .plan) _ _ (c .before .before .before .before .before .plan .given .1) (headerOf (s .args .header)) (now (s .args .out)) _ (c .before .before .put-front .ensures)
+
 same-length-2 : tie.Need-same-length-2
 same-length-2 c = search needs
 
-returns : tie.Need-returns
-returns c =
-    let s = c .before .before .before .before .before .before .before .before .before .before in
-    (no-entity-done (now (s .args .work)) _ _ _ _ (c .before .before .before .before .before .before .plan .given .1) _ (now (s .args .out)) _ (c .before .before .put-front .ensures), kept-none (columns 84 124 ∷ []) (now (s .args .work)))
+returns-2 : tie.Need-returns-2
+returns-2 c =
+    let s = c .before .before .before .before .before .before .before .before .before in
+    unmet-done (now (s .args .work)) _ (s .args .plan) _ _ _ (c .before .before .before .before .before .plan2 .given .1) (headerOf (s .args .header)) (now (s .args .out)) _ (c .before .before .put-walk .ensures)
 
 same-length-3 : tie.Need-same-length-3
 same-length-3 c = search needs
 
-same-length-4 : tie.Need-same-length-4
-same-length-4 c = search needs
-
-returns-2 : tie.Need-returns-2
-returns-2 c =
-    let s = c .before .before .before .before .before .before .before .before .before .before .before .before in
-    let r = c .before .before .before .before .put-walk .ensures in
-    (unmet-done (now (s .args .work)) _ _ _ _ _ (c .before .before .before .before .before .before .before .before .plan2 .given .1) _ (now (s .args .out)) _ (r .0), r .1)
-
-same-length-5 : tie.Need-same-length-5
-same-length-5 c = search needs
-
-same-length-6 : tie.Need-same-length-6
-same-length-6 c = search needs
-
 returns-3 : tie.Need-returns-3
 returns-3 c =
-    let s = c .before .before .before .before .before .before .before .before .before .before .before .before in
-    let r = c .before .before .before .before .put-found .ensures in
-    (found-done (now (s .args .work)) _ _ _ _ _ _ _ _ (c .before .before .before .before .before .before .before .before .plan3 .given .1) _ (now (s .args .out)) _ (r .0), r .1)
+    let s = c .before .before .before .before .before .before .before .before .before in
+    found-done (now (s .args .work)) _ (s .args .plan) _ _ _ _ (c .before .before .before .before .before .plan3 .given .1) (headerOf (s .args .header)) (now (s .args .out)) _ (c .before .before .put-found .ensures)
 
 pub write-spec : {M : Type 1} → statement M
 write-spec =
@@ -77,11 +67,8 @@ write-spec =
     enum-known-plan-3
     put-found-requires
     same-length
-    same-length-2
     returns
-    same-length-3
-    same-length-4
+    same-length-2
     returns-2
-    same-length-5
-    same-length-6
+    same-length-3
     returns-3)

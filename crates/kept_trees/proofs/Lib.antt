@@ -1,0 +1,6 @@
+-- Laws about kept trees.
+pub mod Stretches
+pub mod Building
+pub mod Ways
+pub mod Rows
+pub mod Graphs
