@@ -1,13 +1,14 @@
-/* The exported calls of the proved library, libbozhtagul.a, for C. What they do is fixed by docs/01-scope.md, "document 01".
+/* The exported calls of the proved library, libbozhtagul.a, for C. What they do is fixed by docs/01-scope.md, "document 01", and by
+ * the requests of docs/02-change-requests.md that have come.
  *
  * A slice is a pointer and then its length in bytes. A pointer whose length is 0 is not followed, and may be null. What a call writes to, a
  * work area or an output, may share no byte with anything else that it is lent. Nothing else is required of any argument: each call takes
  * any bytes and any numbers, ends, takes no memory from the heap, and keeps nothing.
  *
- * A result's number is that of the row of document 01's table that turned the call away, with the row's byte position, or 0. Fields that do
- * not apply are 0. After a refusal the output is as it was. The work area is all zero after every call.
+ * A result's number is that of the row of document 01's table that turned the call away, or of a request's, with the row's byte position, or 0.
+ * Fields that do not apply are 0. After a refusal the output is as it was. The work area is all zero after every call.
  *
- * Measured, the calls on a log take at most 264 KiB of stack, the others 3 KiB. */
+ * Measured, the calls on a log take at most 264 KiB of stack, the others 5 KiB. */
 
 #ifndef BOZHTAGUL_H
 #define BOZHTAGUL_H
@@ -15,28 +16,37 @@
 #include <stddef.h>
 #include <stdint.h>
 
-/* A question's direction: of the last version at or before its time, and of the first one at or after it. Any other number is row 11. */
+/* A question's direction: of the last version at or before its time, of the first one at or after it, and of all versions from its time until a
+ * later one, both included. Any other number is row 11. */
 #define BOZHTAGUL_VERSION_ONLY 0
 #define BOZHTAGUL_BACKWARD 1
 #define BOZHTAGUL_FORWARD 2
 #define BOZHTAGUL_VERSION_ONLY_AFTER 3
 #define BOZHTAGUL_BACKWARD_AFTER 4
 #define BOZHTAGUL_FORWARD_AFTER 5
+#define BOZHTAGUL_BETWEEN 6
 
 /* A verdict; 0 where the check refuses. */
 #define BOZHTAGUL_NO_ENTITY 1
 #define BOZHTAGUL_NOT_YET 2
 #define BOZHTAGUL_FOUND 3
 #define BOZHTAGUL_NONE_SO_LATE 4
+#define BOZHTAGUL_LISTED 5
 
-/* Bytes of a digest and of a commitment; bytes of work area for a record; the most records of a log and of a trace. */
+/* Bytes of a digest and of a commitment; bytes of work area for a record; bytes of a version in a list, its entity in 4 and its time in 8, both
+ * big-endian; the most records of a log and of a trace. */
 #define BOZHTAGUL_DIGEST 32
 #define BOZHTAGUL_WORK 128
+#define BOZHTAGUL_VERSION 12
 #define BOZHTAGUL_MOST_RECORDS 65535
 
-/* No listing has more bytes, and no answer about a log of so many records. */
+/* No listing has more bytes, and no answer about a log of so many records: in directions 0 to 5, and in direction 6. */
 #define BOZHTAGUL_MOST_LISTING 65536
 #define BOZHTAGUL_MOST_ANSWER(records) (3211 + 22 * (size_t)(records))
+#define BOZHTAGUL_MOST_SPAN_ANSWER(records) (122 + 174 * (size_t)(records))
+
+/* No answer of so many bytes has a list of more: an opened leaf has 77. */
+#define BOZHTAGUL_MOST_LIST(answer_len) (BOZHTAGUL_VERSION * ((size_t)(answer_len) / 77))
 
 struct bozhtagul_outcome {
     uint64_t number;
@@ -51,7 +61,7 @@ struct bozhtagul_written {
 };
 
 /* A found version has its time, and its trace the count of records, 0 without a trace. With not yet the time is that of the entity's first
- * version, and with none so late that of its last. */
+ * version, and with none so late that of its last. With listed the count is that of the versions in the list. */
 struct bozhtagul_checked {
     uint64_t number;
     uint64_t position;
@@ -92,23 +102,27 @@ struct bozhtagul_outcome bozhtagul_commitment(
     uint8_t *work, size_t work_len,
     uint8_t *out, size_t out_len);
 
-/* Writes the answer to a question to the first bytes of the output. The work area takes 128 bytes a record. */
+/* Writes the answer to a question to the first bytes of the output. The work area takes 128 bytes a record. In direction 6 the question is for all
+ * versions from time until another, and a time above that one is row 25; in the others until has no effect. */
 struct bozhtagul_written bozhtagul_answer(
-    uint8_t direction, uint32_t entity, uint64_t time,
+    uint8_t direction, uint32_t entity, uint64_t time, uint64_t until,
     const uint8_t *log, size_t log_len,
     uint8_t *work, size_t work_len,
     uint8_t *out, size_t out_len);
 
-/* Checks an answer against a commitment. The work area takes 128 bytes for each record of the answer's trace. */
+/* Checks an answer against a commitment. The work area takes 128 bytes for each record of the answer's trace. In direction 6 there is none, and the
+ * list of versions is written to the first bytes of the output, 12 bytes each; too short an output is row 13. In the others until and the output
+ * have no effect: the output stays as it was, and may be null. */
 struct bozhtagul_checked bozhtagul_check(
-    uint8_t direction, uint32_t entity, uint64_t time,
+    uint8_t direction, uint32_t entity, uint64_t time, uint64_t until,
     const uint8_t *commitment, size_t commitment_len,
     const uint8_t *answer, size_t answer_len,
-    uint8_t *work, size_t work_len);
+    uint8_t *work, size_t work_len,
+    uint8_t *out, size_t out_len);
 
-/* Where the checked records of an answer stand, without the trace header: 0 and 0 if there are none or the check refuses. */
+/* Where the checked records of an answer stand, without the trace header: 0 and 0 if there are none or the check refuses. A list has none. */
 struct bozhtagul_part bozhtagul_records(
-    uint8_t direction, uint32_t entity, uint64_t time,
+    uint8_t direction, uint32_t entity, uint64_t time, uint64_t until,
     const uint8_t *commitment, size_t commitment_len,
     const uint8_t *answer, size_t answer_len,
     uint8_t *work, size_t work_len);

@@ -1,4 +1,4 @@
-/* From a log to a checked history. At the repository's root, after `rt staticlib bozhtagul`:
+/* From a log to a checked history, and to a checked list of versions. At the repository's root, after `rt staticlib bozhtagul`:
  *
  *     cc -Iinclude include/example.c -Ltarget/staticlib -lbozhtagul -o target/example && target/example */
 
@@ -21,11 +21,14 @@ struct question {
     uint8_t direction;
     uint32_t entity;
     uint64_t time;
+    /* in direction 6 alone */
+    uint64_t until;
 };
 
 static const struct question questions[] = {
-    {"what led to the version of 2 that stood at 35", BOZHTAGUL_BACKWARD, 2, 35},
-    {"what came of the first version of 2 at or after 31", BOZHTAGUL_FORWARD_AFTER, 2, 31},
+    {"what led to the version of 2 that stood at 35", BOZHTAGUL_BACKWARD, 2, 35, 0},
+    {"what came of the first version of 2 at or after 31", BOZHTAGUL_FORWARD_AFTER, 2, 31, 0},
+    {"which versions of 1 are from 10 to 40", BOZHTAGUL_BETWEEN, 1, 10, 40},
 };
 
 /* Ends the program if a call was turned away. */
@@ -83,26 +86,47 @@ static void tell(struct bozhtagul_checked checked) {
     case BOZHTAGUL_NONE_SO_LATE:
         printf("none so late: the last version is at %" PRIu64 "\n", checked.time);
         break;
+    case BOZHTAGUL_LISTED:
+        printf("listed, %" PRIu64 " versions\n", checked.count);
+        break;
     default:
         printf("found at %" PRIu64 ", %" PRIu64 " records\n", checked.time, checked.count);
+    }
+}
+
+/* Prints the versions of a list. */
+static void show_list(const uint8_t *list, uint64_t count) {
+    for (; count > 0; count--, list += BOZHTAGUL_VERSION) {
+        printf("%" PRIu64 " at %" PRIu64 "\n", number(list, 4), number(list + 4, 8));
     }
 }
 
 /* The viewer, which has the commitment and the answer, and no log. */
 static void view(const struct question *asked, const uint8_t *commitment, const uint8_t *answer, size_t length) {
     /* no answer of this length has more records: the shortest has 13 bytes */
-    size_t work_len = BOZHTAGUL_WORK * (length / 13);
-    uint8_t *work = memory(work_len);
-    struct bozhtagul_checked checked = bozhtagul_check(
-        asked->direction, asked->entity, asked->time, commitment, BOZHTAGUL_DIGEST, answer, length, work, work_len);
+    size_t work_len = BOZHTAGUL_WORK * (length / 13), list_len = BOZHTAGUL_MOST_LIST(length);
+    uint8_t *work = memory(work_len), *list = memory(list_len);
+    struct bozhtagul_checked checked =
+        bozhtagul_check(asked->direction, asked->entity, asked->time, asked->until, commitment, BOZHTAGUL_DIGEST, answer,
+                        length, work, work_len, list, list_len);
     accept("check", checked.number, checked.position);
     tell(checked);
-    struct bozhtagul_part part = bozhtagul_records(
-        asked->direction, asked->entity, asked->time, commitment, BOZHTAGUL_DIGEST, answer, length, work, work_len);
+    if (checked.verdict == BOZHTAGUL_LISTED) {
+        show_list(list, checked.count);
+    }
+    struct bozhtagul_part part = bozhtagul_records(asked->direction, asked->entity, asked->time, asked->until, commitment,
+                                                   BOZHTAGUL_DIGEST, answer, length, work, work_len);
     for (size_t place = part.start; place < part.start + part.length;) {
         place += show(answer + place);
     }
+    free(list);
     free(work);
+}
+
+/* Output enough for any answer about a log of so many records. */
+static size_t most_answer(size_t records) {
+    size_t one = BOZHTAGUL_MOST_ANSWER(records), all = BOZHTAGUL_MOST_SPAN_ANSWER(records);
+    return one > all ? one : all;
 }
 
 int main(void) {
@@ -116,12 +140,13 @@ int main(void) {
     accept("commitment", committed.number, committed.position);
 
     /* the host answers */
-    size_t most = BOZHTAGUL_MOST_ANSWER(read.length);
+    size_t most = most_answer(read.length);
     uint8_t *answer = memory(most);
     for (size_t place = 0; place < sizeof questions / sizeof questions[0]; place++) {
         const struct question *asked = &questions[place];
-        struct bozhtagul_written answered = bozhtagul_answer(
-            asked->direction, asked->entity, asked->time, log_k, sizeof log_k, work, work_len, answer, most);
+        struct bozhtagul_written answered =
+            bozhtagul_answer(asked->direction, asked->entity, asked->time, asked->until, log_k, sizeof log_k, work,
+                             work_len, answer, most);
         accept("answer", answered.number, answered.position);
         printf("%s? answer of %" PRIu64 " bytes\n", asked->words, answered.length);
         view(asked, commitment, answer, answered.length);

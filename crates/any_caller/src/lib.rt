@@ -26,22 +26,34 @@ pub fn answer(
     direction: u8,
     entity: u32,
     time: u64,
+    until: u64,
     log: &[u8],
     work: &mut [u8],
     out: &mut [u8],
 ) -> Written {
-    bozhtagul::bozhtagul_answer(direction, entity, time, log, work, out)
+    bozhtagul::bozhtagul_answer(direction, entity, time, until, log, work, out)
 }
 
 pub fn check(
     direction: u8,
     entity: u32,
     time: u64,
+    until: u64,
     commitment: &[u8],
     answer: &[u8],
     work: &mut [u8],
+    out: &mut [u8],
 ) -> Checked {
-    bozhtagul::bozhtagul_check(direction, entity, time, commitment, answer, work)
+    bozhtagul::bozhtagul_check(
+        direction,
+        entity,
+        time,
+        until,
+        commitment,
+        answer,
+        work,
+        out,
+    )
 }
 
 // The checked records themselves, by the bounds alone.
@@ -49,13 +61,14 @@ pub fn records<'a>(
     direction: u8,
     entity: u32,
     time: u64,
+    until: u64,
     commitment: &[u8],
     answer: &'a [u8],
     work: &mut [u8],
 ) -> &'a [u8]
-    ensures { λ r. ⌜ now r ≡ records-call direction entity time (now (commitment .entry)) (now (answer .entry)) (now (work .entry)) .result ⌝ }
+    ensures { λ r. ⌜ now r ≡ records-call direction entity time until (now (commitment .entry)) (now (answer .entry)) (now (work .entry)) .result ⌝ }
 {
-    let b = bozhtagul::bozhtagul_records(direction, entity, time, commitment, answer, work);
+    let b = bozhtagul::bozhtagul_records(direction, entity, time, until, commitment, answer, work);
     let start = b.start as usize;
     &answer[start..start + b.length as usize]
 }

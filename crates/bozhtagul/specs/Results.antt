@@ -26,12 +26,13 @@ written-of m = written (m >>= λ y. ok (length y))
 unfoldable pub outcome-of : Result Bytes → Outcome
 outcome-of m = outcome (m >>= λ _. ok tt)
 
--- the verdict: 1 no entity, 2 not yet, 3 found, 4 none so late; 0 where the check refuses
+-- the verdict: 1 no entity, 2 not yet, 3 found, 4 none so late, 5 listed; 0 where the check refuses
 unfoldable pub checked : Result Verdict → Checked
 checked (ok (Verdict.not-found no-entity)) = record { number = 0; position = 0; verdict = 1; time = 0; count = 0 }
 checked (ok (Verdict.not-found (not-yet first))) = record { number = 0; position = 0; verdict = 2; time = first; count = 0 }
 checked (ok (Verdict.not-found (none-so-late last))) = record { number = 0; position = 0; verdict = 4; time = last; count = 0 }
 checked (ok (Verdict.found t n)) = record { number = 0; position = 0; verdict = 3; time = t; count = n }
+checked (ok (Verdict.listed vs)) = record { number = 0; position = 0; verdict = 5; time = 0; count = length vs }
 checked (refuse n p) = record { number = n; position = p; verdict = 0; time = 0; count = 0 }
 
 -- where the checked records stand in the answer; 0 and 0 if there are none or the check refuses

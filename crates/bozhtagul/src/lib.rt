@@ -38,7 +38,7 @@ pub struct Written {
 }
 
 // The same, and the verdict: 0 none; 1 no entity; 2 not yet, with the time of the entity's first version; 3 found, with the version's time
-// and the number of the trace's records; 4 none so late, with the time of the entity's last version.
+// and the number of the trace's records; 4 none so late, with the time of the entity's last version; 5 listed, with the number of versions.
 #[repr(C)]
 pub struct Checked {
     pub number: u64,
@@ -124,6 +124,7 @@ fn as_checked(verdict: Verdict) -> Checked
     match verdict {
         Verdict::NotFound { stop } => as_stopped(stop),
         Verdict::Found { time, count } => row_or_verdict(0, 0, 3, time.0, count as u64),
+        Verdict::Listed { count } => row_or_verdict(0, 0, 5, 0, count as u64),
     }
 }
 
@@ -171,42 +172,50 @@ pub extern "C" fn bozhtagul_commitment(log: &[u8], work: &mut [u8], out: &mut [u
     as_outcome(host::commitment(log, work, out))
 }
 
-// Writes the answer to a question to the front of `out`. The work area takes 128 bytes a record and is zero afterwards.
+// Writes the answer to a question to the front of `out`. The work area takes 128 bytes a record and is zero afterwards. `until` is the
+// second time of direction 6, and without effect elsewhere.
 #[no_mangle]
 pub extern "C" fn bozhtagul_answer(
     direction: u8,
     entity: u32,
     time: u64,
+    until: u64,
     log: &[u8],
     work: &mut [u8],
     out: &mut [u8],
 ) -> Written
-    ensures result { λ r. ⌜ r ≡ written (answer-call direction entity time (now (log .entry)) (now (out .entry)) (now (work .entry)) .result) ⌝ }
-    ensures output { λ _. ⌜ now (out .exit) ≡ answer-call direction entity time (now (log .entry)) (now (out .entry)) (now (work .entry)) .output ⌝ }
-    ensures cleared { λ _. ⌜ now (work .exit) ≡ answer-call direction entity time (now (log .entry)) (now (out .entry)) (now (work .entry)) .work ⌝ }
+    ensures result { λ r. ⌜ r ≡ written (answer-call direction entity time until (now (log .entry)) (now (out .entry)) (now (work .entry)) .result) ⌝ }
+    ensures output { λ _. ⌜ now (out .exit) ≡ answer-call direction entity time until (now (log .entry)) (now (out .entry)) (now (work .entry)) .output ⌝ }
+    ensures cleared { λ _. ⌜ now (work .exit) ≡ answer-call direction entity time until (now (log .entry)) (now (out .entry)) (now (work .entry)) .work ⌝ }
 {
     let s = EntityKey(entity as u64);
-    as_written(host::answer(direction, s, TimeKey(time), log, work, out))
+    as_written(host::answer(direction, s, TimeKey(time), TimeKey(until), log, work, out))
 }
 
 // Checks an answer, which may be any bytes, against a commitment. The work area takes 128 bytes for each record of the answer's trace and
-// is zero afterwards. `sound` and `complete` are demand 3.
+// is zero afterwards. In direction 6 the versions listed are written to the front of `out`, 12 bytes each: entity and time; in every other
+// direction `out` stays as it was. `sound` and `complete` are demand 3.
 #[no_mangle]
 pub extern "C" fn bozhtagul_check(
     direction: u8,
     entity: u32,
     time: u64,
+    until: u64,
     commitment: &[u8],
     answer: &[u8],
     work: &mut [u8],
+    out: &mut [u8],
 ) -> Checked
-    ensures sound { λ r. ⌜ Sound direction entity time (now (commitment .entry)) (now (answer .entry)) (now (work .entry)) r ⌝ }
-    ensures complete { λ r. ⌜ Complete direction entity time (now (commitment .entry)) (now (answer .entry)) (now (work .entry)) r ⌝ }
-    ensures result { λ r. ⌜ r ≡ checked (check-call direction entity time (now (commitment .entry)) (now (answer .entry)) (now (work .entry)) .result) ⌝ }
-    ensures cleared { λ _. ⌜ now (work .exit) ≡ check-call direction entity time (now (commitment .entry)) (now (answer .entry)) (now (work .entry)) .work ⌝ }
+    ensures sound { λ r. ⌜ Sound direction entity time until (now (commitment .entry)) (now (answer .entry)) (now (work .entry)) (now (out .entry)) (now (out .exit)) r ⌝ }
+    ensures complete { λ r. ⌜ Complete direction entity time until (now (commitment .entry)) (now (answer .entry)) (now (work .entry)) (now (out .entry)) (now (out .exit)) r ⌝ }
+    ensures result { λ r. ⌜ r ≡ checked (check-call direction entity time until (now (commitment .entry)) (now (answer .entry)) (now (out .entry)) (now (work .entry)) .result) ⌝ }
+    ensures output { λ _. ⌜ now (out .exit) ≡ check-call direction entity time until (now (commitment .entry)) (now (answer .entry)) (now (out .entry)) (now (work .entry)) .output ⌝ }
+    ensures cleared { λ _. ⌜ now (work .exit) ≡ check-call direction entity time until (now (commitment .entry)) (now (answer .entry)) (now (out .entry)) (now (work .entry)) .work ⌝ }
 {
     let s = EntityKey(entity as u64);
-    match checker::check(direction, s, TimeKey(time), commitment, answer, work) {
+    let from = TimeKey(time);
+    let to = TimeKey(until);
+    match checker::check(direction, s, from, to, commitment, answer, work, out) {
         Checking::Accepted { verdict } => as_checked(verdict),
         Checking::Refused { number, position } => row_or_verdict(number, position as u64, 0, 0, 0),
     }
@@ -218,17 +227,20 @@ pub extern "C" fn bozhtagul_records(
     direction: u8,
     entity: u32,
     time: u64,
+    until: u64,
     commitment: &[u8],
     answer: &[u8],
     work: &mut [u8],
 ) -> Part
-    ensures result { λ r. ⌜ r ≡ bounds (run direction entity time (now (commitment .entry)) (now (answer .entry)) (length (now (work .entry)))) ⌝ }
+    ensures result { λ r. ⌜ r ≡ bounds (run direction entity time until (now (commitment .entry)) (now (answer .entry)) (length (now (work .entry)))) ⌝ }
     ensures inside { λ r. ⌜ r .start + r .length ≤ length (now (answer .entry)) ⌝ }
-    ensures records { λ r. ⌜ part (now (answer .entry)) (r .start) (r .length) ≡ records-call direction entity time (now (commitment .entry)) (now (answer .entry)) (now (work .entry)) .result ⌝ }
-    ensures cleared { λ _. ⌜ now (work .exit) ≡ records-call direction entity time (now (commitment .entry)) (now (answer .entry)) (now (work .entry)) .work ⌝ }
+    ensures records { λ r. ⌜ part (now (answer .entry)) (r .start) (r .length) ≡ records-call direction entity time until (now (commitment .entry)) (now (answer .entry)) (now (work .entry)) .result ⌝ }
+    ensures cleared { λ _. ⌜ now (work .exit) ≡ records-call direction entity time until (now (commitment .entry)) (now (answer .entry)) (now (work .entry)) .work ⌝ }
 {
     let s = EntityKey(entity as u64);
-    let b = checker::record_bounds(direction, s, TimeKey(time), commitment, answer, work);
+    let from = TimeKey(time);
+    let to = TimeKey(until);
+    let b = checker::record_bounds(direction, s, from, to, commitment, answer, work);
     Part {
         start: b.start as u64,
         length: b.length as u64,

@@ -2,3 +2,5 @@
 mod Referring
 mod RowLaws
 mod Running
+mod Listing
+mod Calls

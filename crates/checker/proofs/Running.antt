@@ -1,19 +1,19 @@
--- Runs of the check: a proof's end, the trace behind it, and the calls. Assumes nothing.
+-- Runs of the check for one version: a proof's end, and the trace behind it. Assumes nothing.
 use mathlib.Core.Path.{_≡_, refl, sym, ap, ap₂, _∙_, subst}
 use mathlib.Core.List.{List, []}
 use Prim.Native.Nat.{ℕ, _+_, _-_, _≤_, _<_}
 use native.Mathlib.Omega.{arith}
 use borrow.Author.Tests.{eq-eqb, ne-eqb}
 use lib.ListN.{length, take, drop, length-drop}
-use Rattle.fields.specs.Fields.{Octets, part}
+use Rattle.fields.specs.Fields.{Octets}
 use Rattle.fields.proofs.Places.{octets-drop}
 use Rattle.model.specs.Numbers.{Bytes}
 use Rattle.model.specs.Result.{Result, ok, refuse, _>>=_, need}
 use Rattle.model.specs.Accumulator.{Leaf}
 use Rattle.model.specs.Question as question
-use Rattle.model.specs.Question.{question, SearchEnd, Verdict}
-use Rattle.model.specs.CheckRows.{leaf-in, CheckedProof, stopped, check-proof, read-trace, trace-rows, Accepted, end-here, with-trace, check-end, run-under, run}
-use Rattle.model.specs.Calls.{verdict-of, records-part, records-call}
+use Rattle.model.specs.Question.{one, SearchEnd, Verdict}
+use Rattle.model.specs.CheckRows.{leaf-in, CheckedProof, stopped, check-proof, read-trace, trace-rows, Accepted, end-here, with-trace, check-end, run-under}
+use Rattle.model.specs.Calls.{verdict-of}
 use Rattle.model.proofs.Outcomes.{bind-eq, bind-refused}
 use Rattle.model.proofs.TraceReading as reading
 use Rattle.question.specs.declared.TimeKey.{TimeKey}
@@ -46,7 +46,7 @@ use Rattle.checker.specs.Runs.{verdictOf, checkingOf, boundsOf, RunIs, b
 
 -- ---- bounds
 
-abbrev bounds : ℕ → ℕ → Bounds
+abbrev pub bounds : ℕ → ℕ → Bounds
 bounds a b = record { start = a; length = b }
 
 bounds-without : (m : Result Accepted) → boundsOf (without-opened m) ≡ boundsOf m
@@ -186,10 +186,21 @@ module _ (answer : Bytes) (leaf at size : ℕ) (part : Part) (r : Run) where
 
 -- ---- the whole run
 
+-- under a commitment of 32 bytes
+pub by-proof : (ask : question.Question) (commitment answer : Bytes) (size : ℕ) → length commitment ≡ 32
+    → run-under 0x52 ask commitment answer size ≡ (check-proof 0x52 ask commitment 0 answer >>= λ (p : CheckedProof). check-end (question.part-of ask) size p (p .end))
+unfolding run-under need _>>=_
+by-proof ask commitment answer size wide = simp (eq-eqb (length commitment) 32 wide)
+
+-- or row 14
+pub no-commitment : (ask : question.Question) (commitment answer : Bytes) (size : ℕ) → (length commitment ≡ 32 → ⊥) → run-under 0x52 ask commitment answer size ≡ refuse 14 0
+unfolding run-under need _>>=_
+no-commitment ask commitment answer size d = simp (ne-eqb (length commitment) 32 d)
+
 -- its proof, as it was read
-module _ (q : Question) (commitment answer : Bytes) (p : Proof) (P : ProofIs answer (check-proof 0x52 (questionOf q) commitment 0 (drop 0 answer)) p) where
+module _ (q : Question) (commitment answer : Bytes) (p : Proof) (P : ProofIs answer (check-proof 0x52 (one (questionOf q)) commitment 0 (drop 0 answer)) p) where
   m : Result CheckedProof
-  m = check-proof 0x52 (questionOf q) commitment 0 answer
+  m = check-proof 0x52 (one (questionOf q)) commitment 0 answer
 
   M : ProofIs answer m p
   unfolding m
@@ -203,21 +214,21 @@ module _ (q : Question) (commitment answer : Bytes) (p : Proof) (P : ProofIs ans
 
   module _ (size : ℕ) (r : Run) (wide : length commitment ≡ 32) where
     abbrev this-run : Result Accepted
-    this-run = run-under 0x52 (questionOf q) commitment answer size
+    this-run = run-under 0x52 (one (questionOf q)) commitment answer size
 
-    by-proof : this-run ≡ (m >>= λ (p : CheckedProof). check-end (partOf (q .part)) size p (p .end))
-    unfolding run-under m need _>>=_
-    by-proof = simp (eq-eqb (length commitment) 32 wide)
+    by-m : this-run ≡ (m >>= λ (p : CheckedProof). check-end (partOf (q .part)) size p (p .end))
+    unfolding m
+    by-m = by-proof (one (questionOf q)) commitment answer size wide
 
     pub proof-refused : (x y : ℕ) → p ≡ Unread x y → r ≡ bareRun (Refused x y) → RunIs answer this-run r
-    proof-refused x y e b = bare-refused answer this-run r x y (by-proof ∙ bind-refused m _ x y (refused-is answer m p M x y e)) b
+    proof-refused x y e b = bare-refused answer this-run r x y (by-m ∙ bind-refused m _ x y (refused-is answer m p M x y e)) b
 
     -- what follows a proof depends on its end alone
     at-end : (e : SearchEnd Leaf) (at : ℕ) → Gives answer m e at → RunIs answer (check-end (partOf (q .part)) size (stopped e at (drop at answer)) e) r → RunIs answer this-run r
     at-end e at g i =
         record {
-          checking-is = i .checking-is ∙ ap checkingOf (sym (end-verdict answer m e at g (partOf (q .part)) size) ∙ sym (ap verdict-of by-proof));
-          bounds-are = i .bounds-are ∙ sym (same-bounds _ _ (run-without answer m e at g (partOf (q .part)) size)) ∙ sym (ap boundsOf by-proof);
+          checking-is = i .checking-is ∙ ap checkingOf (sym (end-verdict answer m e at g (partOf (q .part)) size) ∙ sym (ap verdict-of by-m));
+          bounds-are = i .bounds-are ∙ sym (same-bounds _ _ (run-without answer m e at g (partOf (q .part)) size)) ∙ sym (ap boundsOf by-m);
           inside = i .inside;
         }
 
@@ -232,35 +243,7 @@ module _ (q : Question) (commitment answer : Bytes) (p : Proof) (P : ProofIs ans
     unfolding found-proof leaf-in-answer
     to-leaf leaf at e f = at-end (SearchEnd.found (leaf-in-answer answer leaf)) at (found-is answer m p M leaf at e .1) f
 
--- or row 14
 pub commitment-refused : (q : Question) (commitment answer : Bytes) (size : ℕ) (r : Run) → (length commitment ≡ 32 → ⊥) → r ≡ bareRun (Refused 14 0)
-    → RunIs answer (run-under 0x52 (questionOf q) commitment answer size) r
-unfolding run-under need _>>=_
+    → RunIs answer (run-under 0x52 (one (questionOf q)) commitment answer size) r
 commitment-refused q commitment answer size r d e =
-    bare-refused answer (run-under 0x52 (questionOf q) commitment answer size) r 14 0 (simp (ne-eqb (length commitment) 32 d)) e
-
--- row 11, or the run of the question asked
-module _ (direction s t : ℕ) (commitment answer : Bytes) (size : ℕ) (r : Run) where
-  pub direction-refused : question direction s t ≡ refuse 11 0 → r ≡ bareRun (Refused 11 0) → RunIs answer (run direction s t commitment answer size) r
-  unfolding run
-  direction-refused e q = bare-refused answer (run direction s t commitment answer size) r 11 0 (bind-refused (question direction s t) _ 11 0 e) q
-
-  pub known-run : (q : Question) → question direction s t ≡ ok (questionOf q) → RunIs answer (run-under 0x52 (questionOf q) commitment answer size) r
-      → RunIs answer (run direction s t commitment answer size) r
-  unfolding run
-  known-run q e f = subst (λ (m : Result Accepted). RunIs answer m r) (sym (bind-eq (question direction s t) _ (questionOf q) e)) f
-
--- ---- the calls
-
-part-of : (answer : Bytes) (m : Result Accepted) → part answer (boundsOf m .start) (boundsOf m .length) ≡ records-part answer m
-unfolding boundsOf records-part part
-part-of answer (ok a) = refl
-part-of answer (refuse n p) = refl
-
-pub parted : (direction s t : ℕ) (commitment answer work : Bytes) (b : Bounds) (x : Bytes) → b ≡ boundsOf (run direction s t commitment answer (length work))
-    → x ≡ take (b .start + b .length - b .start) (drop (b .start) answer) → x ≡ records-call direction s t commitment answer work .result
-unfolding records-call part
-parted direction s t commitment answer work b x e q =
-    q ∙ ap (λ (n : ℕ). take n (drop (b .start) answer)) (let k : b .start + b .length - b .start ≡ b .length = omega arith in k)
-    ∙ ap (λ (c : Bounds). part answer (c .start) (c .length)) e
-    ∙ part-of answer (run direction s t commitment answer (length work))
+    bare-refused answer (run-under 0x52 (one (questionOf q)) commitment answer size) r 14 0 (no-commitment (one (questionOf q)) commitment answer size d) e

@@ -2,7 +2,7 @@
 use mathlib.Core.Path.{_≡_}
 use mathlib.Core.Bool.{_&&_}
 use mathlib.Core.Option.{Option, none, some}
-use mathlib.Core.List.{List, []}
+use mathlib.Core.List.{List, [], map}
 use Prim.Native.Nat.{ℕ, _+_, _≤_}
 use lib.Dec.{eqb}
 use lib.ListN.{length, getD, take, drop}
@@ -12,9 +12,9 @@ use Rattle.model.specs.Result.{Result, ok, refuse, _>>=_, need}
 use Rattle.model.specs.Rows.{found-record-differs, path-digest-differs}
 use Rattle.model.specs.Graph.{VersionNode, node-at}
 use Rattle.model.specs.Accumulator.{L-width, Leaf}
-use Rattle.model.specs.Question.{Way, backward, forward, SearchEnd, Verdict}
-use Rattle.model.specs.CheckRows.{leaf-in, CheckedProof, stopped, CheckedTrace, read-trace, unreferenced, found-position, path-digests, leaf-digest, Accepted, end-here}
-use Rattle.model.specs.Calls.{verdict-of}
+use Rattle.model.specs.Question.{Way, backward, forward, SearchEnd, Verdict, list-string}
+use Rattle.model.specs.CheckRows.{leaf-in, CheckedProof, stopped, CheckedTrace, read-trace, unreferenced, found-position, path-digests, leaf-digest, leaf-name, Accepted, end-here, room}
+use Rattle.model.specs.Calls.{output-after, verdict-of}
 use Rattle.graph.specs.Table.{nodes-in, Kept, Digests, Ready}
 use Rattle.marks.specs.Marks.{mark-column}
 use Rattle.proof_reader.specs.Walks.{stopOf}
@@ -22,7 +22,7 @@ use Rattle.trace_reader.specs.Records.{places-in}
 use Rattle.checker.specs.declared.Checking.{Checking}
 use Rattle.checker.specs.declared.Checking.the-variants as checking
 use Rattle.checker.specs.declared.Verdict as declared
-use Rattle.checker.specs.declared.Verdict.the-variants.{NotFound, Found}
+use Rattle.checker.specs.declared.Verdict.the-variants.{NotFound, Found, Listed}
 use Rattle.checker.specs.declared.Bounds.{Bounds}
 use Rattle.checker.specs.declared.Run.{Run}
 use Rattle.checker.specs.declared.Rows.{Rows}
@@ -34,6 +34,7 @@ use Rattle.checker.specs.declared.Rows.the-variants.{Passed, Refused}
 unfoldable pub verdictOf : Verdict → declared.Verdict
 verdictOf (Verdict.not-found s) = NotFound (stopOf s)
 verdictOf (Verdict.found t n) = Found (record { 0 = t }) n
+verdictOf (Verdict.listed vs) = Listed (length vs)
 
 unfoldable pub checkingOf : Result Verdict → Checking
 checkingOf (ok v) = checking.Accepted (verdictOf v)
@@ -50,6 +51,10 @@ pub record RunIs (answer : Bytes) (m : Result Accepted) (r : Run) : Type 0 where
   pub bounds-are : _≡_ {A = Bounds} (record { start = r .start; length = r .length }) (boundsOf m)
   pub inside : r .start + r .length ≤ length answer
 
+pub record BoundsAre (answer : Bytes) (m : Result Accepted) (r : Bounds) : Type 0 where
+  pub are : r ≡ boundsOf m
+  pub within : r .start + r .length ≤ length answer
+
 -- a run that ends without records
 unfoldable pub bareRun : Checking → Run
 bareRun c = record { checking = c; start = 0; length = 0 }
@@ -57,6 +62,21 @@ bareRun c = record { checking = c; start = 0; length = 0 }
 -- a run without a trace, behind a proof that ended before the byte `at`
 abbrev pub EndsHere : Bytes → ℕ → declared.Verdict → Run → Type 0
 EndsHere answer at verdict r = (e : SearchEnd Leaf) (v : Verdict) → verdict ≡ verdictOf v → RunIs answer (end-here v (stopped e at (drop at answer))) r
+
+-- ---- the list
+
+-- a verdict into so many bytes of output: 13
+unfoldable pub fitted : ℕ → Result Verdict → Result Verdict
+fitted out v = v >>= λ v. room v out >>= λ _. ok v
+
+-- the outcome of a check with this verdict, and the output after it
+pub record Checks (v : Result Verdict) (out out′ : Bytes) (r : Checking) : Type 0 where
+  pub result-is : r ≡ checkingOf (fitted (length out) v)
+  pub output-is : out′ ≡ output-after out (fitted (length out) v >>= λ v. ok (list-string v))
+
+-- behind a proof that ended before the byte `at` with these leaves opened
+unfoldable pub list-verdict : Bytes → ℕ → List Leaf → Result Verdict
+list-verdict answer at ls = verdict-of (end-here (Verdict.listed (map leaf-name ls)) (stopped (SearchEnd.listed ls) at (drop at answer)))
 
 -- ---- the leaf found
 

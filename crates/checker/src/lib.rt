@@ -4,16 +4,19 @@ use graph::OUTGOING_COLUMN;
 use graph::PLACE_COLUMN;
 use graph::SLOT_WIDTH;
 use model::LETTER_R;
+use proof_reader::ListProof;
 use proof_reader::Proof;
 use proof_reader::Stop;
 use question::Asked;
 use question::EntityKey;
 use question::Part;
 use question::Question;
+use question::SpanQuestion;
 use question::TimeKey;
 use question::Way;
 use strings::DIGEST_WIDTH;
 use strings::L_INCOMING;
+use strings::NAME_WIDTH;
 use strings::TRACE_HEADER_WIDTH;
 use trace_reader::Trace;
 ghost use mathlib.Core.Path.{_≡_};
@@ -25,23 +28,25 @@ ghost use lib.ListN.{length, getD};
 ghost use Rattle.fields.specs.Fields.{equal};
 ghost use Rattle.round_constants.specs.Constants.{K};
 ghost use Rattle.model.specs.Graph.{VersionNode};
-ghost use Rattle.model.specs.Question.{backward, SearchEnd};
+ghost use Rattle.model.specs.Question.{backward, one, all, SearchEnd};
 ghost use Rattle.model.specs.CheckRows.{found-position, path-digests, leaf-digest, trace-rows, with-trace, check-end, run-under, run};
-ghost use Rattle.model.specs.Calls.{cleared, check-call, records-call};
+ghost use Rattle.model.specs.Calls.{verdict-of, check-call, records-call};
 ghost use Rattle.model.specs.Trace.{trace-header-width};
 ghost use Rattle.model.specs.Accumulator.{L-width, letter-R};
 ghost use Rattle.question.specs.Ways.{wayOf};
-ghost use Rattle.question.specs.Directions.{partOf, questionOf};
+ghost use Rattle.question.specs.Directions.{partOf, questionOf, spanOf, AskedIs};
 ghost use Rattle.graph.specs.Table.{Slot, node-in, nodes-in, Ready};
 ghost use Rattle.marks.specs.Marks.{is-marked};
+ghost use Rattle.proof_reader.specs.Spans.{ListStrings};
 ghost use Rattle.trace_reader.specs.Records.{place-in, places-in};
 ghost use Rattle.checker.specs.declared.Checking.the-variants.{Refused};
-ghost use Rattle.checker.specs.Runs.{checkingOf, boundsOf, RunIs, bareRun, EndsHere, leaf-in-answer, found-proof, rowsOf, Lowest, digest-column, PathDigests, trace-in, found-rows, TraceInTable};
+ghost use Rattle.checker.specs.Runs.{checkingOf, boundsOf, RunIs, BoundsAre, bareRun, EndsHere, list-verdict, Checks, leaf-in-answer, found-proof, rowsOf, Lowest, digest-column, PathDigests, trace-in, found-rows, TraceInTable};
 
 // What an accepted answer says.
 pub enum Verdict {
     NotFound { stop: Stop },
     Found { time: TimeKey, count: usize },
+    Listed { count: usize },
 }
 
 // The verdict of an accepted answer, or the row that turned it away and where.
@@ -366,9 +371,9 @@ fn check_found(
     }
 }
 
-// The run of a known question: row 14, the proof, the trace.
-fn run_known(question: Question, commitment: &[u8], answer: &[u8], work: &mut [u8]) -> Run
-    ensures { λ r. ⌜ RunIs (now (answer .entry)) (run-under letter-R (questionOf question) (now (commitment .entry)) (now (answer .entry)) (length (now (work .entry)))) r ⌝ }
+// The run of a question for one version: row 14, the proof, the trace.
+fn run_one(question: Question, commitment: &[u8], answer: &[u8], work: &mut [u8]) -> Run
+    ensures { λ r. ⌜ RunIs (now (answer .entry)) (run-under letter-R (one (questionOf question)) (now (commitment .entry)) (now (answer .entry)) (length (now (work .entry)))) r ⌝ }
 {
     if commitment.len() != DIGEST_WIDTH {
         return refused_run(14, 0);
@@ -382,56 +387,98 @@ fn run_known(question: Question, commitment: &[u8], answer: &[u8], work: &mut [u
     }
 }
 
-// Row 11, and then the run; the work area is left as it comes.
-fn run_check(
-    direction: u8,
-    entity: EntityKey,
-    time: TimeKey,
-    commitment: &[u8],
-    answer: &[u8],
-    work: &mut [u8],
-) -> Run
-    ensures { λ r. ⌜ RunIs (now (answer .entry)) (run direction (entity .0) (time .0) (now (commitment .entry)) (now (answer .entry)) (length (now (work .entry)))) r ⌝ }
+// ---- all versions between two times
+
+// A row, and where it is met.
+fn refused(number: u64, position: usize) -> Checking
+    ensures { λ r. ⌜ r ≡ Refused number position ⌝ }
 {
-    match question::asked_by(direction, entity, time) {
-        Asked::Unknown => refused_run(11, 0),
-        Asked::Known { question } => run_known(question, commitment, answer, work),
+    Checking::Refused {
+        number: number,
+        position: position,
+    }
+}
+
+// The strings that name the versions have been read: rows 18 and 13, and only then is the list written.
+fn give_list(answer: &[u8], start: usize, end: usize, count: usize, out: &mut [u8]) -> Checking
+    requires { ⌜ ListStrings (now answer) start end count ⌝ }
+    ensures { λ r. ⌜ ((l : ListStrings (now (answer .entry)) start end count) → Checks (list-verdict (now (answer .entry)) end (l .leaves)) (now (out .entry)) (now (out .exit)) r) ⌝ }
+{
+    let size = NAME_WIDTH * count;
+    if answer.len() > end {
+        return refused(18, end);
+    }
+    if out.len() < size {
+        return refused(13, 0);
+    }
+    proof_reader::put_list(answer, start, end, out);
+    Checking::Accepted {
+        verdict: Verdict::Listed { count: count },
+    }
+}
+
+// The check of a question for all versions between two times: row 14, the proof, 18, 13. It needs no work area.
+fn check_all(span: SpanQuestion, commitment: &[u8], answer: &[u8], out: &mut [u8]) -> Checking
+    ensures { λ r. ⌜ ((size : ℕ) → Checks (verdict-of (run-under letter-R (all (spanOf span)) (now (commitment .entry)) (now (answer .entry)) size)) (now (out .entry)) (now (out .exit)) r) ⌝ }
+{
+    if commitment.len() != DIGEST_WIDTH {
+        return refused(14, 0);
+    }
+    let constants = round_constants::work_out();
+    match proof_reader::check_list(LETTER_R, span, commitment, answer, 0, &constants) {
+        ListProof::Refused { number, position } => refused(number, position),
+        ListProof::NoEntity { at } => {
+            let stop = Stop::NoEntity;
+            let r = end_here(answer, at, Verdict::NotFound { stop: stop });
+            r.checking
+        }
+        ListProof::Listed { start, end, count } => give_list(answer, start, end, count, out),
     }
 }
 
 // ---- the calls
 
-// A run, and then the work area cleared, whatever the outcome.
-fn run_and_clear(
-    direction: u8,
-    entity: EntityKey,
-    time: TimeKey,
+// Rows 11 and 25, or the check of what is asked; the work area is left as it comes.
+fn check_asked(
+    asked: Asked,
     commitment: &[u8],
     answer: &[u8],
     work: &mut [u8],
-) -> Run
-    ensures run { λ r. ⌜ RunIs (now (answer .entry)) (run direction (entity .0) (time .0) (now (commitment .entry)) (now (answer .entry)) (length (now (work .entry)))) r ⌝ }
-    ensures area { λ _. ⌜ now (work .exit) ≡ cleared (now (work .entry)) ⌝ }
+    out: &mut [u8],
+) -> Checking
+    ensures { λ r. ⌜ ((d s t t2 : ℕ) → AskedIs d s t t2 asked → Checks (verdict-of (run d s t t2 (now (commitment .entry)) (now (answer .entry)) (length (now (work .entry))))) (now (out .entry)) (now (out .exit)) r) ⌝ }
 {
-    let r = run_check(direction, entity, time, commitment, answer, work);
-    fields::clear(work);
-    r
+    match asked {
+        Asked::Unknown => refused(11, 0),
+        Asked::Reversed => refused(25, 0),
+        Asked::One { question } => {
+            let r = run_one(question, commitment, answer, work);
+            r.checking
+        }
+        Asked::All { span } => check_all(span, commitment, answer, out),
+    }
 }
 
-// Checks an answer against a commitment. The work area takes 128 bytes for each record of the answer's trace and is zero afterwards.
+// Checks an answer against a commitment. The work area takes 128 bytes for each record of the answer's trace and is zero afterwards. For all
+// versions between two times, their list is written to the front of `out`, 12 bytes a version; else `out` stays as it was.
 pub fn check(
     direction: u8,
     entity: EntityKey,
     time: TimeKey,
+    until: TimeKey,
     commitment: &[u8],
     answer: &[u8],
     work: &mut [u8],
+    out: &mut [u8],
 ) -> Checking
-    ensures result { λ r. ⌜ r ≡ checkingOf (check-call direction (entity .0) (time .0) (now (commitment .entry)) (now (answer .entry)) (now (work .entry)) .result) ⌝ }
-    ensures cleared { λ _. ⌜ now (work .exit) ≡ check-call direction (entity .0) (time .0) (now (commitment .entry)) (now (answer .entry)) (now (work .entry)) .work ⌝ }
+    ensures result { λ r. ⌜ r ≡ checkingOf (check-call direction (entity .0) (time .0) (until .0) (now (commitment .entry)) (now (answer .entry)) (now (out .entry)) (now (work .entry)) .result) ⌝ }
+    ensures output { λ _. ⌜ now (out .exit) ≡ check-call direction (entity .0) (time .0) (until .0) (now (commitment .entry)) (now (answer .entry)) (now (out .entry)) (now (work .entry)) .output ⌝ }
+    ensures cleared { λ _. ⌜ now (work .exit) ≡ check-call direction (entity .0) (time .0) (until .0) (now (commitment .entry)) (now (answer .entry)) (now (out .entry)) (now (work .entry)) .work ⌝ }
 {
-    let r = run_and_clear(direction, entity, time, commitment, answer, work);
-    r.checking
+    let asked = question::asked_by(direction, entity, time, until);
+    let r = check_asked(asked, commitment, answer, work, out);
+    fields::clear(work);
+    r
 }
 
 // Where a part of the answer stands.
@@ -440,24 +487,53 @@ pub struct Bounds {
     pub length: usize,
 }
 
+// No records: an empty part.
+fn no_records() -> Bounds
+    ensures { λ r. ⌜ r ≡ record { start = 0; length = 0 } ⌝ }
+{
+    let none: usize = 0;
+    Bounds {
+        start: none,
+        length: none,
+    }
+}
+
+// Where in the answer the checked records stand; the work area is left as it comes. Only a question for one version has records.
+fn bounds_asked(asked: Asked, commitment: &[u8], answer: &[u8], work: &mut [u8]) -> Bounds
+    ensures { λ r. ⌜ ((d s t t2 : ℕ) → AskedIs d s t t2 asked → BoundsAre (now (answer .entry)) (run d s t t2 (now (commitment .entry)) (now (answer .entry)) (length (now (work .entry)))) r) ⌝ }
+{
+    match asked {
+        Asked::Unknown => no_records(),
+        Asked::Reversed => no_records(),
+        Asked::All { span } => no_records(),
+        Asked::One { question } => {
+            let run = run_one(question, commitment, answer, work);
+            Bounds {
+                start: run.start,
+                length: run.length,
+            }
+        }
+    }
+}
+
 // Where in the answer the checked records stand, without the trace header: 0 and 0 if there are none or the check refuses.
 pub fn record_bounds(
     direction: u8,
     entity: EntityKey,
     time: TimeKey,
+    until: TimeKey,
     commitment: &[u8],
     answer: &[u8],
     work: &mut [u8],
 ) -> Bounds
-    ensures result { λ r. ⌜ r ≡ boundsOf (run direction (entity .0) (time .0) (now (commitment .entry)) (now (answer .entry)) (length (now (work .entry)))) ⌝ }
+    ensures result { λ r. ⌜ r ≡ boundsOf (run direction (entity .0) (time .0) (until .0) (now (commitment .entry)) (now (answer .entry)) (length (now (work .entry)))) ⌝ }
     ensures inside { λ r. ⌜ r .start + r .length ≤ length (now (answer .entry)) ⌝ }
-    ensures cleared { λ _. ⌜ now (work .exit) ≡ records-call direction (entity .0) (time .0) (now (commitment .entry)) (now (answer .entry)) (now (work .entry)) .work ⌝ }
+    ensures cleared { λ _. ⌜ now (work .exit) ≡ records-call direction (entity .0) (time .0) (until .0) (now (commitment .entry)) (now (answer .entry)) (now (work .entry)) .work ⌝ }
 {
-    let r = run_and_clear(direction, entity, time, commitment, answer, work);
-    Bounds {
-        start: r.start,
-        length: r.length,
-    }
+    let asked = question::asked_by(direction, entity, time, until);
+    let b = bounds_asked(asked, commitment, answer, work);
+    fields::clear(work);
+    b
 }
 
 // The checked records as that part of the answer; an empty part if there are none or the check refuses.
@@ -465,14 +541,15 @@ pub fn records<'a>(
     direction: u8,
     entity: EntityKey,
     time: TimeKey,
+    until: TimeKey,
     commitment: &[u8],
     answer: &'a [u8],
     work: &mut [u8],
 ) -> &'a [u8]
-    ensures result { λ r. ⌜ now r ≡ records-call direction (entity .0) (time .0) (now (commitment .entry)) (now (answer .entry)) (now (work .entry)) .result ⌝ }
-    ensures cleared { λ _. ⌜ now (work .exit) ≡ records-call direction (entity .0) (time .0) (now (commitment .entry)) (now (answer .entry)) (now (work .entry)) .work ⌝ }
+    ensures result { λ r. ⌜ now r ≡ records-call direction (entity .0) (time .0) (until .0) (now (commitment .entry)) (now (answer .entry)) (now (work .entry)) .result ⌝ }
+    ensures cleared { λ _. ⌜ now (work .exit) ≡ records-call direction (entity .0) (time .0) (until .0) (now (commitment .entry)) (now (answer .entry)) (now (work .entry)) .work ⌝ }
 {
-    let b = record_bounds(direction, entity, time, commitment, answer, work);
+    let b = record_bounds(direction, entity, time, until, commitment, answer, work);
     let start = b.start;
     &answer[start..start + b.length]
 }

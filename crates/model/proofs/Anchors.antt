@@ -1,7 +1,7 @@
 -- What the two halves of demand 3 rule out: these break where a statement is weakened. Assumes nothing.
 use mathlib.Core.Path.{_≡_, refl, sym, ap, _∙_, subst}
 use mathlib.Core.Logic.{_≢_, _⊎_, inl, inr}
-use Prim.Native.Nat.{ℕ, zero, suc, _<_}
+use Prim.Native.Nat.{ℕ, zero, suc, _<_, _≤_}
 use native.Mathlib.Omega.{arith}
 use mathlib.Core.List.{List, [], _∷_, List·Memᴰ·not-nil, List·Memᴰ·head, List·Memᴰ·tail}
 use lib.ListN.{length}
@@ -13,11 +13,11 @@ use Rattle.model.specs.Log.{Record}
 use Rattle.model.specs.Graph.{VersionNode, InEdge, temporal, dependency, node-at, graph, NamedEdge, CausalPath, stay, step, edges-on}
 use Rattle.model.specs.Digest.{letter-I, letter-O, links-string, incoming-string, outgoing-string, incoming-strings, outgoing-strings, incoming-string-of, outgoing-string-of}
 use Rattle.model.specs.Accumulator.{letter-L, letter-N, letter-G, letter-P, letter-R, Header, strings-of, hashed-in-building}
-use Rattle.model.specs.Question.{at-or-before, at-or-after, backward, version-only, trace-of, Question, asked, question, no-entity, Verdict, count}
+use Rattle.model.specs.Question.{at-or-before, at-or-after, backward, version-only, trace-of, VersionQuestion, asked, spanned, Question, one, all, part-of, question, no-entity, VersionName, Verdict, count, name-string, list-string}
 use Rattle.model.specs.Answer.{log-header, log-commitment, log-answer, log-hashed}
-use Rattle.model.specs.CheckRows.{enough, Accepted, run, path-strings, trace-strings, hashed-in-check}
+use Rattle.model.specs.CheckRows.{enough, Accepted, room, run-into, path-strings, trace-strings, hashed-in-check}
 use Rattle.model.specs.Calls.{verdict-of}
-use Rattle.model.specs.Exact.{path-edges, ending, IsSought, nearest-from, sought, verdict-at, true-verdict, ShowsVersion, ShowsEdge, VersionOnPath, EdgeOnPath, Shows, Collision, Escape, strings, Faithful, Check, SoundLog, Soundness, Completeness}
+use Rattle.model.specs.Exact.{path-edges, ending, IsSought, nearest-from, sought, verdict-at, version-verdict, TrueList, places-between, list-at, list-verdict, true-verdict, ShowsVersion, ShowsEdge, VersionOnPath, EdgeOnPath, Shows, Collision, Escape, strings, Faithful, Check, SoundLog, Soundness, Completeness}
 use Rattle.model.proofs.Outcomes.{refuse≢ok, ok-inj}
 use Rattle.model.proofs.Lists.{_among_, among-two}
 use Rattle.model.proofs.Widths.{letters-of}
@@ -27,9 +27,10 @@ use Rattle.model.proofs.Verdicts.{true-verdict-only}
 use Rattle.model.proofs.Truth.{found-is}
 use Rattle.model.proofs.Showing.{version-on, trace-shows}
 use Rattle.model.proofs.HashedCount.{log-building-count}
+use Rattle.model.proofs.Asking.{known-span}
 use Rattle.model.proofs.Soundness.{soundness}
 use Rattle.model.proofs.Completeness.{completeness}
-use Rattle.model.proofs.LogK.{computed, log-bytes, K, K-sound, backward-2-35-records, starred-cases}
+use Rattle.model.proofs.LogK.{computed, log-bytes, K, K-sound, backward-2-35-records, starred-cases, both-of-1}
 
 -- ---- a collision is a real collision
 
@@ -41,17 +42,17 @@ abbrev pub NoCollision : List Bytes → List Bytes → Type 0
 NoCollision built checked = (y z : Bytes) → y among built → z among checked → H y ≡ H z → y ≡ z
 
 -- where that is so, the escape clause gives nothing
-pub no-escape : {h : Header} {ns : List VersionNode} {q : Question} {x : Bytes} {a : Accepted} → NoCollision (hashed-in-building h ns) (hashed-in-check (q .part) a)
-    → Faithful h ns q x a ⊎ Escape h ns (q .part) a → Faithful h ns q x a
+pub no-escape : {h : Header} {ns : List VersionNode} {q : Question} {x : Bytes} {a : Accepted} → NoCollision (hashed-in-building h ns) (hashed-in-check (part-of q) a)
+    → Faithful h ns q x a ⊎ Escape h ns (part-of q) a → Faithful h ns q x a
 no-escape none (inl f) = f
 no-escape none (inr (strings c)) = absurd (c .differ (none (c .x) (c .y) (c .x-built) (c .y-checked) (c .one-hash)))
 
 -- and an accepted answer is faithful
-pub no-collision : {log : Bytes} {rs : List Record} → SoundLog log rs → (direction s t : ℕ) (q : Question) → question direction s t ≡ ok q
-    → (x : Bytes) → Octets x → (work : ℕ) (a : Accepted) → run direction s t (log-commitment rs) x work ≡ ok a
-    → NoCollision (log-hashed rs) (hashed-in-check (q .part) a) → Faithful (log-header rs) (graph rs) q x a
+pub no-collision : {log : Bytes} {rs : List Record} → SoundLog log rs → (direction s t t2 : ℕ) (q : Question) → question direction s t t2 ≡ ok q
+    → (x : Bytes) → Octets x → (work out : ℕ) (a : Accepted) → run-into direction s t t2 (log-commitment rs) x work out ≡ ok a
+    → NoCollision (log-hashed rs) (hashed-in-check (part-of q) a) → Faithful (log-header rs) (graph rs) q x a
 unfolding log-hashed
-no-collision {log} {rs} l direction s t q e x o work a r none = no-escape none (soundness log rs l direction s t q e x o work a r)
+no-collision {log} {rs} l direction s t t2 q e x o work out a r none = no-escape none (soundness log rs l direction s t t2 q e x o work out a r)
 
 -- ---- the strings hashed, on K
 
@@ -71,12 +72,13 @@ K-hashed-letters = refl
 
 -- ---- both halves at K
 
-pub soundness-at-K : (direction s t : ℕ) (q : Question) → question direction s t ≡ ok q → (x : Bytes) → Octets x → (work : ℕ) (a : Accepted) → run direction s t (log-commitment K) x work ≡ ok a
-    → Faithful (log-header K) (graph K) q x a ⊎ Escape (log-header K) (graph K) (q .part) a
+pub soundness-at-K : (direction s t t2 : ℕ) (q : Question) → question direction s t t2 ≡ ok q → (x : Bytes) → Octets x → (work out : ℕ) (a : Accepted)
+    → run-into direction s t t2 (log-commitment K) x work out ≡ ok a → Faithful (log-header K) (graph K) q x a ⊎ Escape (log-header K) (graph K) (part-of q) a
 soundness-at-K = soundness (log-bytes K) K K-sound
 
-pub completeness-at-K : (direction s t : ℕ) (q : Question) → question direction s t ≡ ok q → (work : ℕ)
-    → verdict-of (run direction s t (log-commitment K) (log-answer K q) work) ≡ (enough (count (true-verdict (graph K) q)) work >>= λ _. ok (true-verdict (graph K) q))
+pub completeness-at-K : (direction s t t2 : ℕ) (q : Question) → question direction s t t2 ≡ ok q → (work out : ℕ)
+    → verdict-of (run-into direction s t t2 (log-commitment K) (log-answer K q) work out)
+    ≡ (enough (count (true-verdict (graph K) q)) work >>= λ _. room (true-verdict (graph K) q) out >>= λ _. ok (true-verdict (graph K) q))
 completeness-at-K = completeness (log-bytes K) K K-sound
 
 -- ---- where the walk stops, at K: 2 before its first version and after its last
@@ -91,7 +93,7 @@ stops-ahead-at-K = stop-gives (log-bytes K) K K-sound (asked at-or-after version
 
 -- ---- each part of `Faithful`, at K's first question
 
-abbrev first-question : Question
+abbrev first-question : VersionQuestion
 first-question = asked at-or-before (trace-of backward) 2 35
 
 -- the version sought is the third, 2 at 30
@@ -104,8 +106,8 @@ first-trace : Shows (graph K) 2 (trace-of backward) backward-2-35-records
 unfolding computed
 first-trace = trace-shows (graph K) (well-formed (log-bytes K) K K-sound .starts-before) backward 2 (lit< tt)
 
-first-verdict : true-verdict (graph K) first-question ≡ Verdict.found 30 3
-unfolding computed nearest-from sought verdict-at true-verdict
+first-verdict : true-verdict (graph K) (one first-question) ≡ Verdict.found 30 3
+unfolding computed nearest-from sought verdict-at version-verdict true-verdict
 first-verdict = refl
 
 -- a flow's edge by kind and by the names of its two ends
@@ -152,17 +154,17 @@ module _ (n : ℕ) (late : n ≡ 40) where
       shown-by (s .edge .start) (starts-in-trace (s .j) (s .inside) (s .edge) (s .listed)) (ap (λ (m : NamedEdge). m .start-time) (s .is-it) ∙ q)
 
 -- what an accepted answer to it is and shows, where no strings collide
-module _ (x : Bytes) (o : Octets x) (work : ℕ) (a : Accepted) (accepted : run 1 2 35 (log-commitment K) x work ≡ ok a)
+module _ (x : Bytes) (o : Octets x) (t2 work out : ℕ) (a : Accepted) (accepted : run-into 1 2 35 t2 (log-commitment K) x work out ≡ ok a)
     (none : NoCollision (log-hashed K) (hashed-in-check (trace-of backward) a))
   where
-    the-faithful : Faithful (log-header K) (graph K) first-question x a
+    the-faithful : Faithful (log-header K) (graph K) (one first-question) x a
     unfolding question
-    the-faithful = no-collision K-sound 1 2 35 first-question refl x o work a accepted none
+    the-faithful = no-collision K-sound 1 2 35 t2 (one first-question) refl x o work out a accepted none
 
     shown : Shows (graph K) 2 (trace-of backward) (a .records)
     shown = the-faithful .the-trace 2 first-sought
 
-    pub answer-at-K : x ≡ log-answer K first-question
+    pub answer-at-K : x ≡ log-answer K (one first-question)
     unfolding log-answer
     answer-at-K = the-faithful .the-answer
 
@@ -170,7 +172,7 @@ module _ (x : Bytes) (o : Octets x) (work : ℕ) (a : Accepted) (accepted : run 
     verdict-at-K = the-faithful .the-verdict ∙ first-verdict
 
     pub verdict-by-paths-at-K : a .verdict ≡ Verdict.found 30 3
-    verdict-by-paths-at-K = true-verdict-only (graph K) (well-formed (log-bytes K) K K-sound) first-question (a .verdict) (the-faithful .by-paths) ∙ first-verdict
+    verdict-by-paths-at-K = true-verdict-only (graph K) (well-formed (log-bytes K) K K-sound) (one first-question) (a .verdict) (the-faithful .by-paths) ∙ first-verdict
 
     pub version-shown-at-K : ShowsVersion (a .records) 1 10
     version-shown-at-K = shown .versions 1 10 .1 first-version
@@ -188,16 +190,16 @@ module _ (x : Bytes) (o : Octets x) (work : ℕ) (a : Accepted) (accepted : run 
 
 -- accepts whatever it is given, with one verdict, and opens nothing
 pub accept-all : Verdict → Check
-accept-all v direction s t c x work = ok (record { verdict = v; opened = []; records = []; records-start = 0; records-length = 0 })
+accept-all v direction s t t2 c x work out = ok (record { verdict = v; opened = []; records = []; records-start = 0; records-length = 0 })
 
 pub accept-all-unsound : (v : Verdict) → Soundness (accept-all v) → ⊥
 unfolding computed accept-all hashed-in-check trace-strings path-strings incoming-strings log-answer
-accept-all-unsound v sound = go (sound (log-bytes K) K K-sound 1 2 35 (asked at-or-before (trace-of backward) 2 35) refl [] Octets.none 0 _ refl)
+accept-all-unsound v sound = go (sound (log-bytes K) K K-sound 1 2 35 0 (one (asked at-or-before (trace-of backward) 2 35)) refl [] Octets.none 0 0 _ refl)
   where
-    go : Faithful (log-header K) (graph K) (asked at-or-before (trace-of backward) 2 35) [] (record { verdict = v; opened = []; records = []; records-start = 0; records-length = 0 })
+    go : Faithful (log-header K) (graph K) (one (asked at-or-before (trace-of backward) 2 35)) [] (record { verdict = v; opened = []; records = []; records-start = 0; records-length = 0 })
         ⊎ Escape (log-header K) (graph K) (trace-of backward) (record { verdict = v; opened = []; records = []; records-start = 0; records-length = 0 }) → ⊥
     go (inl f) =
-        let c = starred-cases .one in
+        let c = starred-cases .one 0 in
         nothing (ap length (f .the-answer)) (subst (λ (z : Question). length (log-answer K z) ≡ 446) (ok-inj (sym (c .known))) (c .the-length))
       where
         nothing : {m : ℕ} → 0 ≡ m → m ≡ 446 → ⊥
@@ -206,19 +208,44 @@ accept-all-unsound v sound = go (sound (log-bytes K) K K-sound 1 2 35 (asked at-
 
 -- refuses whatever it is given
 pub refuse-all : ℕ → ℕ → Check
-refuse-all n p direction s t c x work = refuse n p
+refuse-all n p direction s t t2 c x work out = refuse n p
 
 pub refuse-all-incomplete : (n p : ℕ) → Completeness (refuse-all n p) → ⊥
-unfolding computed refuse-all verdict-of nearest-from sought verdict-at true-verdict
-refuse-all-incomplete n p complete = refuse≢ok (complete (log-bytes K) K K-sound 1 2 35 (asked at-or-before (trace-of backward) 2 35) refl 384)
+unfolding computed refuse-all verdict-of nearest-from sought verdict-at version-verdict true-verdict room list-string
+refuse-all-incomplete n p complete = refuse≢ok (complete (log-bytes K) K K-sound 1 2 35 0 (one (asked at-or-before (trace-of backward) 2 35)) refl 384 0)
 
 -- "no entity" before R is opened: neither half holds
 pub no-entity-first-unsound : Soundness (accept-all (Verdict.not-found no-entity)) → ⊥
 no-entity-first-unsound = accept-all-unsound (Verdict.not-found no-entity)
 
 pub no-entity-first-incomplete : Completeness (accept-all (Verdict.not-found no-entity)) → ⊥
-unfolding computed accept-all verdict-of nearest-from sought verdict-at true-verdict
-no-entity-first-incomplete complete = never (ok-inj (complete (log-bytes K) K K-sound 1 2 35 (asked at-or-before (trace-of backward) 2 35) refl 384))
+unfolding computed accept-all verdict-of nearest-from sought verdict-at version-verdict true-verdict room list-string
+no-entity-first-incomplete complete = never (ok-inj (complete (log-bytes K) K K-sound 1 2 35 0 (one (asked at-or-before (trace-of backward) 2 35)) refl 384 0))
   where
     never : Verdict.not-found no-entity ≡ Verdict.found 30 3 → ⊥
     never e = let z : _≡_ {A = ℕ} 0 1 = cc in omega arith
+
+-- ---- direction 6: lists that leave a version out
+
+-- where no two different strings of the two lists share a hash, an accepted list is that of all the log's versions of s in the span
+pub full-list : {log : Bytes} {rs : List Record} → SoundLog log rs → (s t t2 : ℕ) → t ≤ t2 → (x : Bytes) → Octets x → (work out : ℕ) (a : Accepted)
+    → run-into 6 s t t2 (log-commitment rs) x work out ≡ ok a → NoCollision (log-hashed rs) (hashed-in-check version-only a)
+    → TrueList (graph rs) (spanned s t t2) (a .verdict)
+full-list l s t t2 h x o work out a r none = no-collision l 6 s t t2 (all (spanned s t t2)) (known-span s t t2 h) x o work out a r none .by-paths
+
+-- a check that gives these versions for 1, 10 to 40 on K, whatever it is handed: neither half holds unless they are 1 10 and 1 40
+pub fixed-list-incomplete : (vs : List VersionName) → (vs ≢ both-of-1) → Completeness (accept-all (Verdict.listed vs)) → ⊥
+unfolding computed accept-all verdict-of nearest-from places-between list-at list-verdict true-verdict room name-string list-string
+fixed-list-incomplete vs other complete = other (listed-inj (ok-inj (complete (log-bytes K) K K-sound 6 1 10 40 (all (spanned 1 10 40)) refl 0 24)))
+  where
+    listed-inj : {a b : List VersionName} → Verdict.listed a ≡ Verdict.listed b → a ≡ b
+    listed-inj e = cc
+
+pub nothing-listed-incomplete : Completeness (accept-all (Verdict.listed [])) → ⊥
+nothing-listed-incomplete = fixed-list-incomplete [] (λ e. let z = ap length e in omega arith)
+
+pub first-listed-incomplete : Completeness (accept-all (Verdict.listed (record { entity = 1; time = 10 } ∷ []))) → ⊥
+first-listed-incomplete = fixed-list-incomplete (record { entity = 1; time = 10 } ∷ []) (λ e. let z = ap length e in omega arith)
+
+pub nothing-listed-unsound : Soundness (accept-all (Verdict.listed [])) → ⊥
+nothing-listed-unsound = accept-all-unsound (Verdict.listed [])

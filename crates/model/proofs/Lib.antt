@@ -1,5 +1,5 @@
--- What is proved of the definitions. `Soundness.soundness` and `Completeness.completeness` are demand 3; `LogK.starred-cases` and
--- `LogK.ahead-cases` are the table.
+-- What is proved of the definitions. `Soundness.soundness` and `Completeness.completeness` are demand 3; `LogK.starred-cases`,
+-- `LogK.ahead-cases` and `LogK.list-cases` are the table.
 
 -- outcomes, strings, lists
 pub mod Outcomes
@@ -26,12 +26,13 @@ pub mod Showing
 -- an accepted proof is the defined one, and its end the true verdict
 pub mod Walk
 pub mod WalkTruth
+pub mod Open
+pub mod Preorder
+pub mod ProofPart
 pub mod Verdicts
 pub mod Truth
 pub mod SoundnessOverGraphs
 -- the defined answer is accepted
-pub mod Open
-pub mod Preorder
 pub mod TraceWriting
 pub mod DefinedTrace
 pub mod CompletenessOverGraphs

@@ -13,8 +13,8 @@ use Rattle.model.specs.Log.{Record, birth, flow, BIRTH, FLOW, record-lim
 use Rattle.model.specs.LogRows.{parse, ends-rows, next-record, records-by, log-by, log-within, read-log}
 use Rattle.model.specs.Graph.{VersionNode}
 use Rattle.model.specs.Accumulator.{Subtree, Layout, Leaf, branch-width}
-use Rattle.model.specs.Question.{Way, Part, version-only, trace-of, Question, question, SearchEnd, Descent}
-use Rattle.model.specs.CheckRows.{take-string, CheckedProof, opening, chosen, check-tree, check-versions, check-entities, check-proof, read-record, CheckedTrace, read-records, enough, read-trace, trace-rows, end-here, with-trace, check-end, run-under, run}
+use Rattle.model.specs.Question.{Way, Part, version-only, trace-of, Question, one, all, part-of, question, SearchEnd, Descent, within}
+use Rattle.model.specs.CheckRows.{take-string, CheckedProof, opening, subtree-in, chosen, check-tree, check-versions, none-due, check-leaf, check-all, path-limit, check-span, check-sought, check-entities, check-proof, read-record, CheckedTrace, read-records, enough, read-trace, trace-rows, end-here, with-trace, check-end, run-under, run, room, run-into}
 use Rattle.model.specs.Calls.{hash-call, log-call, listing-call, commitment-bytes, commitment-call, answer-bytes, answer-call, verdict-of, check-call, fitting, writing}
 use Rattle.model.proofs.Outcomes.{and-T}
 
@@ -97,11 +97,34 @@ module _ {A : Type 0} (l : Layout A) (d : Descent) (inside : Bytes → ℕ → �
       (after _ _ (string (l .inner-letter) branch-width (k .digest) pos x)
       (λ s. after _ (λ r. ok (opening s r)) (tree f (chosen d s) (pos + branch-width) (drop branch-width x)) (λ r. given (opening s r)))))
 
+none-numbered : (pos : ℕ) (x : Bytes) → Numbered (none-due pos x)
+unfolding none-due
+none-numbered pos x = after _ _ (row _ 15 pos tt) (λ _. turned 16 pos tt)
+
+leaf-numbered : (k : Subtree) (pos : ℕ) (x : Bytes) → Numbered (check-leaf k pos x)
+unfolding check-leaf
+leaf-numbered k pos x = after _ _ (string 0x4c 77 (k .digest) pos x) (λ s. given _)
+
+all-numbered : (opens : Subtree → Bool) (n : ℕ) (k : Subtree) (pos : ℕ) (x : Bytes) → Numbered (check-all opens n k pos x)
+unfolding check-all
+all-numbered opens zero k pos x = either (opens k) _ _ (either (eqb (k .least) (k .greatest)) _ _ (leaf-numbered k pos x) (none-numbered pos x)) (given _)
+all-numbered opens (suc n) k pos x =
+    either (opens k) _ _
+    (either (eqb (k .least) (k .greatest)) _ _ (leaf-numbered k pos x)
+    (after _ _ (string 0x4e 97 (k .digest) pos x)
+    (λ s. after _ _ (all-numbered opens n (subtree-in s 1) (pos + 97) (drop 97 x)) (λ a. after _ _ (all-numbered opens n (subtree-in s 49) (a .pos) (a .rest)) (λ b. given _)))))
+    (given _)
+
+sought-numbered : (q : Question) (f : ℕ) (k : Subtree) (pos : ℕ) (x : Bytes) → Numbered (check-sought q f k pos x)
+unfolding check-sought check-versions check-span
+sought-numbered (one q) f k pos x = tree _ _ _ (λ s f pos x. given _) f k pos x
+sought-numbered (all p) f k pos x = after _ _ (all-numbered (within p) path-limit k pos x) (λ a. given _)
+
 proof : (letter : ℕ) (q : Question) (due : Bytes) (pos : ℕ) (x : Bytes) → Numbered (check-proof letter q due pos x)
-unfolding check-proof check-entities check-versions
+unfolding check-proof check-entities
 proof letter q due pos x =
     after _ _ (string letter 65 due pos x)
-    (λ s. after _ _ (tree _ _ _ (λ s f pos x. tree _ _ _ (λ s f pos x. given _) f _ pos x) (length x) _ _ _) (λ r. given _))
+    (λ s. after _ _ (tree _ _ _ (λ s f pos x. sought-numbered q f _ pos x) (length x) _ _ _) (λ r. given _))
 
 -- ---- the trace
 
@@ -134,23 +157,29 @@ here v p = after _ _ (row _ 18 _ tt) (λ _. given _)
 end : (p : Part) (work : ℕ) (r : CheckedProof) (e : SearchEnd Leaf) → Numbered (check-end p work r e)
 unfolding check-end with-trace
 end p work r (SearchEnd.not-found s) = here _ r
+end p work r (SearchEnd.listed ls) = here _ r
 end version-only work r (SearchEnd.found l) = here _ r
 end (trace-of way) work r (SearchEnd.found l) = after _ _ (trace way work _ _) (λ t. after _ _ (rows way l t) (λ _. given _))
 
-ask : (direction : ℕ) (s : EntityKey) (t : TimeKey) → Numbered (question direction s t)
+ask : (direction : ℕ) (s : EntityKey) (t t2 : TimeKey) → Numbered (question direction s t t2)
 unfolding question
-ask zero s t = given _
-ask (suc zero) s t = given _
-ask (suc (suc zero)) s t = given _
-ask (suc (suc (suc zero))) s t = given _
-ask (suc (suc (suc (suc zero)))) s t = given _
-ask (suc (suc (suc (suc (suc zero))))) s t = given _
-ask (suc (suc (suc (suc (suc (suc d)))))) s t = turned 11 0 tt
+ask zero s t t2 = given _
+ask (suc zero) s t t2 = given _
+ask (suc (suc zero)) s t t2 = given _
+ask (suc (suc (suc zero))) s t t2 = given _
+ask (suc (suc (suc (suc zero)))) s t t2 = given _
+ask (suc (suc (suc (suc (suc zero))))) s t t2 = given _
+ask (suc (suc (suc (suc (suc (suc zero)))))) s t t2 = after _ _ (row _ 25 0 tt) (λ _. given _)
+ask (suc (suc (suc (suc (suc (suc (suc d))))))) s t t2 = turned 11 0 tt
 
-pub run-numbered : (direction : ℕ) (s : EntityKey) (t : TimeKey) (c x : Bytes) (work : ℕ) → Numbered (run direction s t c x work)
+pub run-numbered : (direction : ℕ) (s : EntityKey) (t t2 : TimeKey) (c x : Bytes) (work : ℕ) → Numbered (run direction s t t2 c x work)
 unfolding run run-under
-run-numbered direction s t c x work =
-    after _ _ (ask direction s t) (λ q. after _ _ (row _ 14 0 tt) (λ _. after _ _ (proof _ q c 0 x) (λ p. end (q .part) work p (p .end))))
+run-numbered direction s t t2 c x work =
+    after _ _ (ask direction s t t2) (λ q. after _ _ (row _ 14 0 tt) (λ _. after _ _ (proof _ q c 0 x) (λ p. end (part-of q) work p (p .end))))
+
+pub run-into-numbered : (direction : ℕ) (s : EntityKey) (t t2 : TimeKey) (c x : Bytes) (work out : ℕ) → Numbered (run-into direction s t t2 c x work out)
+unfolding run-into room
+run-into-numbered direction s t t2 c x work out = after _ _ (run-numbered direction s t t2 c x work) (λ a. after _ _ (row _ 13 0 tt) (λ _. given _))
 
 -- ---- the calls that give a number
 
@@ -171,13 +200,13 @@ unfolding commitment-call writing commitment-bytes fitting enough read-log
 commitment-numbered log out work =
     after _ _ (after _ _ (log-numbered record-limit log) (λ rs. after _ _ (row _ 12 0 tt) (λ _. after _ _ (row _ 13 0 tt) (λ _. given _)))) (λ _. given tt)
 
-pub answer-numbered : (direction : ℕ) (s : EntityKey) (t : TimeKey) (log out work : Bytes) → Numbered (answer-call direction s t log out work .result)
+pub answer-numbered : (direction : ℕ) (s : EntityKey) (t t2 : TimeKey) (log out work : Bytes) → Numbered (answer-call direction s t t2 log out work .result)
 unfolding answer-call writing answer-bytes fitting enough read-log
-answer-numbered direction s t log out work =
+answer-numbered direction s t t2 log out work =
     after _ _
-    (after _ _ (ask direction s t) (λ q. after _ _ (log-numbered record-limit log) (λ rs. after _ _ (row _ 12 0 tt) (λ _. after _ _ (row _ 13 0 tt) (λ _. given _)))))
+    (after _ _ (ask direction s t t2) (λ q. after _ _ (log-numbered record-limit log) (λ rs. after _ _ (row _ 12 0 tt) (λ _. after _ _ (row _ 13 0 tt) (λ _. given _)))))
     (λ y. given (length y))
 
-pub check-numbered : (direction : ℕ) (s : EntityKey) (t : TimeKey) (c x work : Bytes) → Numbered (check-call direction s t c x work .result)
+pub check-numbered : (direction : ℕ) (s : EntityKey) (t t2 : TimeKey) (c x out work : Bytes) → Numbered (check-call direction s t t2 c x out work .result)
 unfolding check-call verdict-of
-check-numbered direction s t c x work = after _ _ (run-numbered direction s t c x (length work)) (λ a. given (a .verdict))
+check-numbered direction s t t2 c x out work = after _ _ (run-into-numbered direction s t t2 c x (length work) (length out)) (λ a. given (a .verdict))

@@ -5,7 +5,7 @@ use mathlib.Core.Logic.{_⊎_, inl, inr}
 use Prim.Native.Nat.{ℕ, zero, suc, _+_, _^_, _<_, _≤_}
 use native.Mathlib.Omega.{arith}
 use mathlib.Core.Bool.{not, cond}
-use mathlib.Core.List.{List, [], _∷_, _++_, append-assoc, append-nil, List·Memᴰ·head, List·Memᴰ·tail, Memᴰ·append-left, Memᴰ·append-right}
+use mathlib.Core.List.{List, [], _∷_, _++_, map, append-assoc, append-nil, List·Memᴰ·head, List·Memᴰ·tail, Memᴰ·append-left, Memᴰ·append-right}
 use lib.ListN.{length, take, drop, getD, take-append-drop, length-append}
 use lib.Seq.{getD-take, length-take-le}
 use lib.Dec.{T, leb, eqb, eqb→eq, eqb-refl, leb→le, T-not}
@@ -14,9 +14,9 @@ use Rattle.fields.proofs.Numbers.{decode-encode}
 use Rattle.fields.proofs.Places.{equal-true}
 use Rattle.model.specs.Result.{Result, ok, _>>=_}
 use Rattle.model.specs.Numbers.{Bytes, EntityKey, entity-width, time-width, digest-width, key-width, H, joined}
-use Rattle.model.specs.Accumulator.{branch-width, R-width, Subtree, branch-string, parent, Tree, tip, branch, Layout, subtree, string-of, strings-of, Leaf, leaf-string, VersionLeaf, versions-layout, group-string, Group, entities-layout, Header, root-string}
-use Rattle.model.specs.Question.{Relation, Question, SearchEnd, Descent, by-entity, by-time, Opened, stop, after, open-tree, open-versions, open-entities}
-use Rattle.model.specs.CheckRows.{take-string, CheckedProof, stopped, opening, subtree-in, chosen, leaf-in, check-tree, check-versions, check-entities, check-proof}
+use Rattle.model.specs.Accumulator.{branch-width, Subtree, branch-string, parent, Tree, tip, branch, Layout, subtree, string-of, strings-of, Leaf, leaf-string, VersionLeaf, versions-layout, group-string, Group, entities-layout, Header, root-string}
+use Rattle.model.specs.Question.{Relation, SearchEnd, Descent, by-time, Opened, stop, after, open-tree, open-versions}
+use Rattle.model.specs.CheckRows.{take-string, CheckedProof, stopped, opening, subtree-in, chosen, leaf-in, check-tree, check-versions}
 use Rattle.model.specs.Exact.{Collision}
 use Rattle.model.proofs.Outcomes.{refuse≢ok, ok-inj, bind-ok, past, by-test, test, cond-T, cond-F}
 use Rattle.model.proofs.Strings.{H-length, Wide, none, num, text, sum, part-joined}
@@ -135,6 +135,7 @@ leaf-of v = v .leaf
 abbrev pub seen : SearchEnd VersionLeaf → SearchEnd Leaf
 seen (SearchEnd.not-found s) = SearchEnd.not-found s
 seen (SearchEnd.found v) = SearchEnd.found (v .leaf)
+seen (SearchEnd.listed vs) = SearchEnd.listed (map leaf-of vs)
 
 pub record Agrees (r : CheckedProof) (w : Opened) : Type 0 where
   pub ends : r .end ≡ seen (w .end)
@@ -152,7 +153,7 @@ sound-after s str r w p (inl a) = inl (record { ends = a .ends; opens = ap₂ {C
 sound-after s str r w p (inr c) = inr (collision-more s c)
 
 -- a string, and a walk that is sound if the string is the true one
-sound-string : {B : List Bytes} (letter w pos : ℕ) (x str : Bytes) (g : Bytes → Result CheckedProof) (v : Opened) (r : CheckedProof) → 0 < w → str among B
+pub sound-string : {B : List Bytes} (letter w pos : ℕ) (x str : Bytes) (g : Bytes → Result CheckedProof) (v : Opened) (r : CheckedProof) → 0 < w → str among B
     → ((r′ : CheckedProof) → g str ≡ ok r′ → Sound B r′ v)
     → (take-string letter w (H str) pos x >>= λ s. g s >>= λ r. ok (opening s r)) ≡ ok r → Sound B r (after str v)
 sound-string {B} letter w pos x str g v r p m f q = go (bind-ok _ _ q)
@@ -367,47 +368,6 @@ versions-sound t fits rel time f pos x r B into q =
         subst (λ (z : CheckedProof). Sound B z (stop (SearchEnd.found v))) (ok-inj o)
         (inl (record { ends = ap (λ (l : Leaf). SearchEnd.found l) (leaf-back (v .leaf) h); opens = refl }))
 
--- what follows an entity's G string, in the defined walk and in the check
-abbrev pub open-group : Question → Group → Opened
-open-group ask g = open-versions (ask .relation) (ask .time) (g .versions)
-
-abbrev pub check-group : Question → Bytes → ℕ → ℕ → Bytes → Result CheckedProof
-check-group ask s f pos x = check-versions (ask .relation) (ask .time) f (subtree-in s 9) pos x
-
-pub entities-sound : (t : Tree Group) → AllTree GroupFits t → (ask : Question) (f pos : ℕ) (x : Bytes) (r : CheckedProof) (B : List Bytes)
-    → ((y : Bytes) → y among entity-strings t → y among B)
-    → check-entities ask f (subtree entities-layout t) pos x ≡ ok r → Sound B r (open-entities ask t)
-unfolding check-entities open-entities strings-of
-entities-sound t fits ask f pos x r B into q =
-    tree-sound entities-layout entities-letters (by-entity (ask .entity)) (open-group ask) (check-group ask) (λ (g : Group). version-strings (g .versions)) B t
-    (follows-all t fits into) (group-keys t fits) f pos x r into q
-  where
-    follows : (g : Group) → GroupFits g → ((y : Bytes) → y among version-strings (g .versions) → y among B)
-        → Follows entities-layout (open-group ask) (check-group ask) B g
-    follows g h into f pos x r o =
-        versions-sound (g .versions) (h .versions-fit) (ask .relation) (ask .time) f pos x r B into
-        (ap (λ (k : Subtree). check-versions (ask .relation) (ask .time) f k pos x) (sym (group-back (g .entity) (subtree versions-layout (g .versions)) (versions-known (g .versions) (h .versions-fit)))) ∙ o)
-
-    follows-all : (t : Tree Group) → AllTree GroupFits t → ((y : Bytes) → y among entity-strings t → y among B)
-        → AllTree (Follows entities-layout (open-group ask) (check-group ask) B) t
-    follows-all (tip g) h into = follows g h (λ y m. into y (List·Memᴰ·tail m))
-    follows-all (branch a b) h into =
-        (follows-all a (h .0) (λ y m. into y (List·Memᴰ·tail (Memᴰ·append-left (entity-strings b) m))), follows-all b (h .1) (λ y m. into y (List·Memᴰ·tail (Memᴰ·append-right (entity-strings a) m))))
-
--- the proof of a root over a tree of entities
-pub proof-sound : {B : List Bytes} (h : Header) (n : ℕ) (t : Tree Group) → AllTree GroupFits t → (ask : Question) (pos : ℕ) (x : Bytes) (r : CheckedProof)
-    → ((y : Bytes) → y among root-string h n (subtree entities-layout t) ∷ entity-strings t → y among B)
-    → check-proof (h .letter) ask (H (root-string h n (subtree entities-layout t))) pos x ≡ ok r
-    → Sound B r (after (root-string h n (subtree entities-layout t)) (open-entities ask t))
-unfolding check-proof
-proof-sound {B} h n t fits ask pos x r into q =
-    sound-string (h .letter) R-width pos x (root-string h n (subtree entities-layout t))
-    (λ y. check-entities ask (length x) (subtree-in y 17) (pos + R-width) (drop R-width x)) (open-entities ask t) r (omega arith)
-    (into _ (List·Memᴰ·head refl))
-    (λ r′ o.
-    entities-sound t fits ask (length x) (pos + R-width) (drop R-width x) r′ B (λ y m. into y (List·Memᴰ·tail m))
-    (ap (λ (k : Subtree). check-entities ask (length x) k (pos + R-width) (drop R-width x)) (sym (root-back h n (subtree entities-layout t) (entities-known t fits))) ∙ o)) q
-
 -- ---- the bytes: an accepted walk used up the strings that it opened
 
 pub record Used (pos : ℕ) (x : Bytes) (r : CheckedProof) : Type 0 where
@@ -429,7 +389,7 @@ used-one pos w x s r p h u =
           ∙ omega (arith, length-append s (joined (r .opened)), ap length p ∙ length-take-le w x h);
     }
 
-used-string : (letter w pos : ℕ) (due x : Bytes) (r : CheckedProof) (g : Bytes → Result CheckedProof) → 0 < w
+pub used-string : (letter w pos : ℕ) (due x : Bytes) (r : CheckedProof) (g : Bytes → Result CheckedProof) → 0 < w
     → (take-string letter w due pos x >>= λ s. g s >>= λ r. ok (opening s r)) ≡ ok r
     → ((s : Bytes) (r′ : CheckedProof) → g s ≡ ok r′ → Used (pos + w) (drop w x) r′) → Used pos x r
 used-string letter w pos due x r g p q ih =
@@ -438,7 +398,7 @@ used-string letter w pos due x r g p q ih =
     let t = taken letter w due pos x (o .0) p (o .1) in
     subst (λ (z : CheckedProof). Used pos x z) (ok-inj (k .2)) (used-one pos w x (o .0) (k .0) (t .is) (t .long) (ih (o .0) (k .0) (k .1)))
 
-tree-used : {A : Type 0} (l : Layout A) → 0 < l .leaf-width → (d : Descent) (after-leaf : Bytes → ℕ → ℕ → Bytes → Result CheckedProof)
+pub tree-used : {A : Type 0} (l : Layout A) → 0 < l .leaf-width → (d : Descent) (after-leaf : Bytes → ℕ → ℕ → Bytes → Result CheckedProof)
     → ((s : Bytes) (f pos : ℕ) (x : Bytes) (r : CheckedProof) → after-leaf s f pos x ≡ ok r → Used pos x r)
     → (f : ℕ) (k : Subtree) (pos : ℕ) (x : Bytes) (r : CheckedProof) → check-tree l d after-leaf f k pos x ≡ ok r → Used pos x r
 unfolding check-tree
@@ -454,16 +414,8 @@ tree-used l w d after-leaf ih (suc f) k pos x r q =
     (λ s r′ q′. tree-used l w d after-leaf ih f _ (pos + branch-width) (drop branch-width x) r′ q′)))
     q
 
-versions-used : (rel : Relation) (time f : ℕ) (k : Subtree) (pos : ℕ) (x : Bytes) (r : CheckedProof) → check-versions rel time f k pos x ≡ ok r → Used pos x r
+pub versions-used : (rel : Relation) (time f : ℕ) (k : Subtree) (pos : ℕ) (x : Bytes) (r : CheckedProof) → check-versions rel time f k pos x ≡ ok r → Used pos x r
 unfolding check-versions
 versions-used rel time f k pos x r q =
     tree-used versions-layout (omega arith) (by-time rel time) (λ s f pos x. ok (stopped (SearchEnd.found (leaf-in s)) pos x))
     (λ s f pos x r o. subst (λ (z : CheckedProof). Used pos x z) (ok-inj o) (used-none _ pos x)) f k pos x r q
-
-pub proof-used : (letter : ℕ) (ask : Question) (due : Bytes) (pos : ℕ) (x : Bytes) (r : CheckedProof) → check-proof letter ask due pos x ≡ ok r → Used pos x r
-unfolding check-proof check-entities
-proof-used letter ask due pos x r q =
-    used-string letter R-width pos due x r _ (omega arith) q
-    (λ y r′ o.
-    tree-used entities-layout (omega arith) (by-entity (ask .entity)) (check-group ask)
-    (λ y f pos x r k. versions-used (ask .relation) (ask .time) f (subtree-in y 9) pos x r k) (length x) _ (pos + R-width) (drop R-width x) r′ o)

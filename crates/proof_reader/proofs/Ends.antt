@@ -15,7 +15,10 @@ use Rattle.model.proofs.CheckSteps.{bare, without-opened, end-without, verdict-
 use Rattle.proof_reader.specs.declared.Stop.{Stop}
 use Rattle.proof_reader.specs.declared.Proof.{Proof}
 use Rattle.proof_reader.specs.declared.Proof.the-variants.{Stopped, Found, Refused}
+use Rattle.proof_reader.specs.declared.ListProof.{ListProof}
+use Rattle.proof_reader.specs.declared.ListProof.the-variants.{NoEntity, Listed as ToList, Refused as Unlisted}
 use Rattle.proof_reader.specs.Walks.{stopOf, Gives, ProofIs, stopped, found, refused}
+use Rattle.proof_reader.specs.Spans.{ListStrings, ListIs, without, lists, unlisted}
 
 -- ---- by the reader's answer
 
@@ -40,6 +43,28 @@ module _ (answer : Bytes) (m : Result CheckedProof) (r : Proof) (P : ProofIs ans
     where
       go : ProofIs answer m (Refused n p) → m ≡ refuse n p
       go (refused _ _ e) = e
+
+module _ (answer : Bytes) (m : Result CheckedProof) (r : ListProof) (P : ListIs answer m r) where
+  list-is : (x : ListProof) → r ≡ x → ListIs answer m x
+  list-is x q = subst (λ (y : ListProof). ListIs answer m y) q P
+
+  pub without-is : (at : ℕ) → r ≡ NoEntity at → Gives answer m (SearchEnd.not-found model.no-entity) at
+  without-is at q = go (list-is (NoEntity at) q)
+    where
+      go : ListIs answer m (NoEntity at) → Gives answer m (SearchEnd.not-found model.no-entity) at
+      go (without _ g) = g
+
+  pub lists-is : (start end count : ℕ) → r ≡ ToList start end count → (l : ListStrings answer start end count) × Gives answer m (SearchEnd.listed (l .leaves)) end
+  lists-is start end count q = go (list-is (ToList start end count) q)
+    where
+      go : ListIs answer m (ToList start end count) → (l : ListStrings answer start end count) × Gives answer m (SearchEnd.listed (l .leaves)) end
+      go (lists _ _ _ l g) = (l, g)
+
+  pub unlisted-is : (n p : ℕ) → r ≡ Unlisted n p → m ≡ refuse n p
+  unlisted-is n p q = go (list-is (Unlisted n p) q)
+    where
+      go : ListIs answer m (Unlisted n p) → m ≡ refuse n p
+      go (unlisted _ _ e) = e
 
 -- ---- without the strings opened
 

@@ -2,4 +2,6 @@
 pub mod Strings
 mod Descents
 mod Walking
+mod Spans
+pub mod Listing
 pub mod Ends

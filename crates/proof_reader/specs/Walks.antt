@@ -7,16 +7,18 @@ use lib.Dec.{eqb}
 use lib.ListN.{length, take, drop}
 use Rattle.model.specs.Numbers.{Bytes, TimeKey}
 use Rattle.model.specs.Result.{Result, ok, refuse}
-use Rattle.model.specs.Accumulator.{L-width, branch-width, Subtree, Leaf}
+use Rattle.model.specs.Accumulator.{G-width, L-width, branch-width, Subtree, Leaf}
 use Rattle.model.specs.Question as model
-use Rattle.model.specs.Question.{Relation, Question, SearchEnd, Descent}
-use Rattle.model.specs.CheckRows.{take-string, CheckedProof, subtree-in, leaf-in, check-versions, check-entities}
+use Rattle.model.specs.Question.{Relation, Question, entity-of, SearchEnd, Descent}
+use Rattle.model.specs.CheckRows.{take-string, CheckedProof, subtree-in, leaf-in, check-versions, check-sought, check-entities}
 use Rattle.proof_reader.specs.declared.Taking.{Taking}
 use Rattle.proof_reader.specs.declared.Taking.the-variants.{Taken, Refused as Cut}
 use Rattle.proof_reader.specs.declared.Opening.{Opening}
 use Rattle.proof_reader.specs.declared.Opening.the-variants.{Leaf as LeafTaken, Inner as InnerTaken, Refused as Unopened}
 use Rattle.proof_reader.specs.declared.Stop.{Stop}
 use Rattle.proof_reader.specs.declared.Stop.the-variants.{NoEntity, NotYet, NoneSoLate}
+use Rattle.proof_reader.specs.declared.EntitySearch.{EntitySearch}
+use Rattle.proof_reader.specs.declared.EntitySearch.the-variants.{NoEntity as ToNothing, Group as ToGroup, Refused as Unsought}
 use Rattle.proof_reader.specs.declared.Proof.{Proof}
 use Rattle.proof_reader.specs.declared.Proof.the-variants.{Stopped, Found, Refused}
 
@@ -60,6 +62,10 @@ stopOf (model.none-so-late last) = NoneSoLate (record { 0 = last })
 unfoldable pub versions-at : Relation → TimeKey → Bytes → ℕ → ℕ → Result CheckedProof
 versions-at r t answer at known = check-versions r t (length (drop at answer)) (subtree-in answer known) at (drop at answer)
 
+-- for one version, or for all between two times
+unfoldable pub sought-at : Question → Bytes → ℕ → ℕ → Result CheckedProof
+sought-at q answer at known = check-sought q (length (drop at answer)) (subtree-in answer known) at (drop at answer)
+
 unfoldable pub entities-at : Question → Bytes → ℕ → ℕ → Result CheckedProof
 entities-at q answer at known = check-entities q (length (drop at answer)) (subtree-in answer known) at (drop at answer)
 
@@ -71,6 +77,18 @@ pub record Gives (answer : Bytes) (m : Result CheckedProof) (e : SearchEnd Leaf)
   pub pos-is : proof .pos ≡ at
   pub rest-is : proof .rest ≡ drop at answer
   pub inside : at ≤ length answer
+
+-- m goes on as n: it ends as n does
+pub record GoesOn (answer : Bytes) (m n : Result CheckedProof) : Type 0 where
+  pub ends : (e : SearchEnd Leaf) (at : ℕ) → Gives answer n e at → Gives answer m e at
+  pub refuses : (number position : ℕ) → n ≡ refuse number position → m ≡ refuse number position
+
+-- the walk to the entity s, for every question of it: it ends there, or goes on behind a string G, or meets a row
+pub data SearchIs (answer : Bytes) (s : ℕ) (check : Question → Result CheckedProof) : EntitySearch → Type 0 where
+  to-nothing : (at : ℕ) → ((q : Question) → entity-of q ≡ s → Gives answer (check q) (SearchEnd.not-found model.no-entity) at) → SearchIs answer s check (ToNothing at)
+  to-group : (at : ℕ) → at + G-width ≤ length answer → ((q : Question) → entity-of q ≡ s → GoesOn answer (check q) (sought-at q answer (at + G-width) (at + 9)))
+      → SearchIs answer s check (ToGroup at)
+  unsought : (number position : ℕ) → ((q : Question) → entity-of q ≡ s → check q ≡ refuse number position) → SearchIs answer s check (Unsought number position)
 
 -- how it ends, or the row that it meets and where
 pub data ProofIs (answer : Bytes) (m : Result CheckedProof) : Proof → Type 0 where

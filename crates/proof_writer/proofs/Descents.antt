@@ -9,12 +9,12 @@ use native.Mathlib.Omega.{arith}
 use borrow.Author.Tests.{lt-ltb, le-ltb}
 use lib.Dec.{T, ltb}
 use lib.ListN.{length, take, drop, getD, length-append, length-drop, take-append-drop, List·getD-append}
-use lib.Seq.{length-take-le, getD-append-add, getD-take, getD-drop}
+use lib.Seq.{length-take-le, getD-append-add}
 use Rattle.model.specs.Numbers.{Bytes, joined}
 use Rattle.model.specs.Accumulator.{Subtree as Known, Tree, tip, branch, branch-string, parent, largest-power-below, tree, Layout, subtree, string-of}
 use Rattle.model.specs.Question.{SearchEnd, Descent, Opened, stop, after, open-tree}
 use Rattle.model.proofs.Strings.{H-length, joined-append}
-use Rattle.model.proofs.Trees.{flat, tree-flat, tree-one, tree-halves}
+use Rattle.model.proofs.Trees.{tree-one, tree-halves}
 use Rattle.model.proofs.Open.{branch-length}
 use Rattle.model.proofs.Walk.{stopped-at, opened-tip, opened-branch}
 use Rattle.graph.proofs.Nodes.{map-length}

@@ -7,31 +7,37 @@ use native.Mathlib.Omega.{arith}
 use borrow.Author.Tests.{ltb-false}
 use lib.Dec.{ltb}
 use lib.ListN.{length, getD}
+use Rattle.fields.specs.Fields.{written}
 use Rattle.model.specs.Numbers.{Bytes, joined}
 use Rattle.model.specs.Graph.{VersionNode}
 use Rattle.model.specs.Accumulator.{tip, subtree, tree, VersionLeaf, versions-layout, no-leaf, Group, entities-layout, no-group, entities, version-leaves, group, entity-tree, leaf-string}
-use Rattle.model.specs.Question.{Question, no-entity, SearchEnd, by-entity, by-time, Opened, stop, after, open-versions, open-entities}
+use Rattle.model.specs.Question.{VersionQuestion, SpanQuestion, Question, one, all, entity-of, no-entity, SearchEnd, by-entity, by-time, Opened, stop, after, open-all, within, open-span, open-versions, open-sought, open-entities}
 use Rattle.model.proofs.Lists.{map-at}
-use Rattle.graph.specs.Table.{Columns, columns, Kept}
+use Rattle.graph.specs.Table.{nodes-in, Columns, columns, Kept}
 use Rattle.graph.proofs.Slots.{kept-then}
-use Rattle.graph.proofs.Nodes.{map-length}
 use Rattle.accumulator.specs.Halves.{own}
 use Rattle.trees.specs.Tables.{Graphed, HasGraph, groups, versions, version-at}
 use Rattle.trees.proofs.Keeping.{graphed-kept}
 use Rattle.ranks.specs.declared.Ranks.{Ranks}
-use Rattle.ranks.specs.Ranked.{slot-at, first-in, count-in, slots-in, Ranked, RankedAs}
+use Rattle.ranks.specs.Ranked.{slot-at, first-in, count-in, slots-in, RankedAs}
 use Rattle.ranks.proofs.Reading.{some-versions, count-inside}
 use Rattle.ranks.proofs.Slots.{kept-wider, slots-length}
 use Rattle.kept_trees.proofs.Rows.{digests-beside, ranked-as-same}
-use Rattle.kept_trees.specs.Leaves.{Leaves, stretch, versions-row, entities-row}
+use Rattle.kept_trees.specs.Leaves.{stretch, versions-row}
 use Rattle.kept_trees.specs.Kept.{KeptTree, TreesKept}
-use Rattle.kept_trees.proofs.Graphs.{versions-are, versions-number, entities-are}
+use Rattle.kept_trees.proofs.Graphs.{versions-are, versions-number}
+use Rattle.question.specs.declared.SpanQuestion.{SpanQuestion as Declared}
+use Rattle.question.specs.declared.Question.{Question as DeclaredOne}
+use Rattle.question.specs.Directions.{questionOf, spanOf}
+use Rattle.proof_writer.specs.declared.Query.{Query}
+use Rattle.proof_writer.specs.declared.Query.the-variants.{One, All}
 use Rattle.proof_writer.specs.declared.Way.{Way}
 use Rattle.proof_writer.specs.declared.EntityPath.{EntityPath}
 use Rattle.proof_writer.specs.declared.Planned.{Planned}
-use Rattle.proof_writer.specs.declared.Planned.the-variants.{NoEntity, Unmet, Found}
-use Rattle.proof_writer.specs.Walks.{onto, Walked, StoppedAt, ReachedAt}
-use Rattle.proof_writer.specs.Plans.{reached-entity, entity-path, entity-string, version-path, strings-of, path-of, EndIs, PathIs, WayIs, RestIs, PlanIs, Plan, HasTrees, HasPath, Reaches}
+use Rattle.proof_writer.specs.declared.Planned.the-variants.{NoEntity, Unmet, Found, Listed}
+use Rattle.proof_writer.specs.Walks.{queryOf, onto, StoppedAt, ReachedAt}
+use Rattle.proof_writer.specs.Spans.{span-strings}
+use Rattle.proof_writer.specs.Plans.{listed-strings, reached-entity, entity-path, entity-string, version-path, strings-of, path-of, EndIs, PathIs, WayIs, RestIs, PlanIs, HasTrees, HasList, Reaches}
 
 -- ---- in the entity's tree
 
@@ -78,7 +84,7 @@ module _ (work : Bytes) (n : ℕ) (ns : List VersionNode) (G : Graphed work n ns
       ∙ map-at (version-at ns) (slots-in work (first-in work (p .ranks) (p .target)) (count-in work (p .ranks) (p .target))) j no-leaf 0 (omega (arith, slots-length work (first-in work (p .ranks) (p .target)) (count-in work (p .ranks) (p .target))))
       ∙ ap (version-at ns) (slots-at work (first-in work (p .ranks) (p .target)) (count-in work (p .ranks) (p .target)) j (omega arith) ∙ ap (λ (k : ℕ). slot-at work (k + j)) (sym first) ∙ sym e)
 
-  module _ (q : Question) (R : Reaches work ns q p) where
+  module _ (q : VersionQuestion) (R : Reaches work ns (one q) p) where
     abbrev opens : (v : VersionLeaf) → Opened
     opens v = stop (SearchEnd.found v)
 
@@ -92,8 +98,8 @@ module _ (work : Bytes) (n : ℕ) (ns : List VersionNode) (G : Graphed work n ns
 
     -- what is opened of the entity's tree
     inside-is : (w : Opened) → open-versions (q .relation) (q .time) (tree no-leaf (versions ns x)) ≡ w
-        → open-entities q (entity-tree ns) ≡ onto (entity-path ns p) (after (entity-string ns (q .entity)) w)
-    unfolding group versions
+        → open-entities (one q) (entity-tree ns) ≡ onto (entity-path ns p) (after (entity-string ns (q .entity)) w)
+    unfolding group versions open-sought
     inside-is w e =
         R .is
         ∙ ap (λ (v : Opened). onto (entity-path ns p) (after (entity-string ns (q .entity)) v))
@@ -104,7 +110,7 @@ module _ (work : Bytes) (n : ℕ) (ns : List VersionNode) (G : Graphed work n ns
 
     pub plan-unmet : (size target depth : ℕ) → target < t - f → depth ≤ t - f
         → StoppedAt versions-layout (by-time (q .relation) (q .time)) opens no-leaf (versions ns x) target depth
-        → size ≡ 122 + 97 * p .depth + 97 * depth → PlanIs work ns q (Unmet size p (record { target = target; depth = depth }))
+        → size ≡ 122 + 97 * p .depth + 97 * depth → PlanIs work ns (one q) (Unmet size p (record { target = target; depth = depth }))
     unfolding path-of RestIs strings-of EndIs onto version-path open-versions
     plan-unmet size target depth h g S e =
         let w : Way = record { target = target; depth = depth } in
@@ -121,7 +127,7 @@ module _ (work : Bytes) (n : ℕ) (ns : List VersionNode) (G : Graphed work n ns
 
     pub plan-found : (size target depth slot : ℕ) → target < t - f → depth ≤ t - f → slot ≡ slot-at work (f + target)
         → ReachedAt versions-layout (by-time (q .relation) (q .time)) opens no-leaf (versions ns x) target depth
-        → size ≡ 122 + 97 * p .depth + (97 * depth + 77) → PlanIs work ns q (Found size p (record { target = target; depth = depth }) slot)
+        → size ≡ 122 + 97 * p .depth + (97 * depth + 77) → PlanIs work ns (one q) (Found size p (record { target = target; depth = depth }) slot)
     unfolding path-of RestIs strings-of EndIs onto version-path open-versions
     plan-found size target depth slot h g z S e =
         let w : Way = record { target = target; depth = depth } in
@@ -137,11 +143,38 @@ module _ (work : Bytes) (n : ℕ) (ns : List VersionNode) (G : Graphed work n ns
               ∙ ap₂ (λ (y : ℕ) (u : VersionLeaf). opened-behind (version-path ns y w ++ (leaf-string (u .leaf) ∷ [])) (SearchEnd.found u)) name v;
         }
 
+  -- all of its versions between two times
+  module _ (s : Declared) where
+    listed-in : span-strings ns work (spanOf s) f (t - f) ≡ listed-strings ns x (spanOf s)
+    unfolding span-strings listed-strings
+    listed-in =
+        ap (λ (vs : List VersionLeaf). open-all versions-layout (within (spanOf s)) (tree no-leaf vs) .opened)
+        (ap₂ (λ (i n : ℕ). map (version-at ns) (slots-in work i n)) first count-is ∙ I .ranked .versions-are (p .target) (I .inside))
+
+    pub list-put : (out out1 : Bytes) (at : ℕ) → out1 ≡ written out at (joined (span-strings ns work (spanOf s) f (t - f))) → out1 ≡ written out at (joined (listed-strings ns x (spanOf s)))
+    list-put out out1 at e = e ∙ ap (λ (ss : List Bytes). written out at (joined ss)) listed-in
+
+    -- room for them
+    pub list-space : (room room′ : ℕ) → 122 + 97 * p .depth + length (joined (listed-strings ns x (spanOf s))) ≤ room → room′ ≡ room
+        → 122 + 97 * p .depth + length (joined (span-strings ns work (spanOf s) f (t - f))) ≤ room′
+    list-space room room′ h e = omega (arith, ap (λ (ss : List Bytes). length (joined ss)) listed-in)
+
+    pub plan-listed : Reaches work ns (all (spanOf s)) p → (size : ℕ) → size ≡ 122 + 97 * p .depth + length (joined (span-strings ns work (spanOf s) f (t - f))) → PlanIs work ns (all (spanOf s)) (Listed size p s)
+    unfolding path-of RestIs strings-of EndIs onto open-sought open-span listed-strings group versions
+    plan-listed R size e =
+        record {
+          path = I;
+          rest = (R .name, e ∙ ap (λ (ss : List Bytes). 122 + 97 * p .depth + length (joined ss)) (listed-in ∙ ap (λ (y : ℕ). listed-strings ns y (spanOf s)) (R .name)));
+          end = _;
+          ends = (_, refl);
+          is = R .is;
+        }
+
 -- ---- in the tree of entities
 
 -- what follows an entity's string
 abbrev pub inside-group : Question → Group → Opened
-inside-group q g = open-versions (q .relation) (q .time) (g .versions)
+inside-group q g = open-sought q (g .versions)
 
 module _ (work : Bytes) (n : ℕ) (ns : List VersionNode) (G : Graphed work n ns) (r : Ranks) (ranked : RankedAs work ns r) (kept : TreesKept work r) (target depth : ℕ) (inside : target < r .entities)
     (shallow : depth ≤ r .entities) where
@@ -152,7 +185,7 @@ module _ (work : Bytes) (n : ℕ) (ns : List VersionNode) (G : Graphed work n ns
   path-is e = record { ranked = ranked; kept = kept; inside = inside; shallow = omega (arith, ranked .ranked .fewer, ranked .ranked .few); long = e }
 
   module _ (q : Question) where
-    pub plan-absent : (size : ℕ) → StoppedAt entities-layout (by-entity (q .entity)) (inside-group q) no-group (groups ns) target depth → size ≡ 65 + 97 * depth → PlanIs work ns q (NoEntity size path)
+    pub plan-absent : (size : ℕ) → StoppedAt entities-layout (by-entity (entity-of q)) (inside-group q) no-group (groups ns) target depth → size ≡ 65 + 97 * depth → PlanIs work ns q (NoEntity size path)
     unfolding path-of RestIs strings-of EndIs onto entity-path open-entities entity-tree groups by-entity
     plan-absent size S e =
         record {
@@ -163,24 +196,24 @@ module _ (work : Bytes) (n : ℕ) (ns : List VersionNode) (G : Graphed work n ns
           is = S .walked .is ∙ ap (λ (ss : List Bytes). record { end = SearchEnd.not-found no-entity; opened = ss }) (append-nil (entity-path ns path));
         }
 
-    module _ (S : ReachedAt entities-layout (by-entity (q .entity)) (inside-group q) no-group (groups ns) target depth) where
+    module _ (S : ReachedAt entities-layout (by-entity (entity-of q)) (inside-group q) no-group (groups ns) target depth) where
       leaf-is : getD (groups ns) target no-group ≡ group (version-leaves ns) (getD (entities ns) target 0)
       unfolding groups
       leaf-is = map-at (group (version-leaves ns)) (entities ns) target no-group 0 (omega (arith, inside, ranked .number))
 
-      equal : (e : ℕ) → (ltb (q .entity) e || ltb e (q .entity)) ≡ false → e ≡ q .entity
-      equal e h = go (ltb (q .entity) e) refl h
+      equal : (e : ℕ) → (ltb (entity-of q) e || ltb e (entity-of q)) ≡ false → e ≡ entity-of q
+      equal e h = go (ltb (entity-of q) e) refl h
         where
-          go : (c : Bool) → ltb (q .entity) e ≡ c → (c || ltb e (q .entity)) ≡ false → e ≡ q .entity
+          go : (c : Bool) → ltb (entity-of q) e ≡ c → (c || ltb e (entity-of q)) ≡ false → e ≡ entity-of q
           go true a b = absurd (let z : _≡_ {A = ℕ} 0 1 = never b in omega arith)
             where
               never : true ≡ false → _≡_ {A = ℕ} 0 1
               never u = cc
-          go false a b = omega (arith, ltb-false (q .entity) e a, ltb-false e (q .entity) b)
+          go false a b = omega (arith, ltb-false (entity-of q) e a, ltb-false e (entity-of q) b)
 
-      name-is : getD (entities ns) target 0 ≡ q .entity
+      name-is : getD (entities ns) target 0 ≡ entity-of q
       unfolding by-entity subtree group
-      name-is = equal (getD (entities ns) target 0) (ap (λ (g : Group). by-entity (q .entity) .stops (subtree entities-layout (tip g))) (sym leaf-is) ∙ S .met)
+      name-is = equal (getD (entities ns) target 0) (ap (λ (g : Group). by-entity (entity-of q) .stops (subtree entities-layout (tip g))) (sym leaf-is) ∙ S .met)
 
       pub reaches : Reaches work ns q path
       unfolding entity-path entity-string open-entities entity-tree groups
@@ -194,6 +227,15 @@ module _ (work : Bytes) (n : ℕ) (ns : List VersionNode) (G : Graphed work n ns
           }
 
 -- ---- planning
+
+-- the question that a query stands for
+pub plan-one : (work : Bytes) (ns : List VersionNode) (p : EntityPath) (z : Query) (v : DeclaredOne) (r : Planned) → z ≡ One v → (Reaches work ns (one (questionOf v)) p → PlanIs work ns (one (questionOf v)) r)
+    → Reaches work ns (queryOf z) p → PlanIs work ns (queryOf z) r
+plan-one work ns p z v r e f R = subst (λ (y : Query). PlanIs work ns (queryOf y) r) (sym e) (f (subst (λ (y : Query). Reaches work ns (queryOf y) p) e R))
+
+pub plan-all : (work : Bytes) (ns : List VersionNode) (p : EntityPath) (z : Query) (s : Declared) (r : Planned) → z ≡ All s → (Reaches work ns (all (spanOf s)) p → PlanIs work ns (all (spanOf s)) r)
+    → Reaches work ns (queryOf z) p → PlanIs work ns (queryOf z) r
+plan-all work ns p z s r e f R = subst (λ (y : Query). PlanIs work ns (queryOf y) r) (sym e) (f (subst (λ (y : Query). Reaches work ns (queryOf y) p) e R))
 
 -- what a plan says of a table that ranks and kept trees were added to
 pub kept-back : (cs : List Columns) (a b : Bytes) → Kept cs a b → Kept cs b a
@@ -214,3 +256,11 @@ module _ (w w1 w2 : Bytes) (n : ℕ) (r : Ranks) (H : HasGraph w n) (ranked : (n
   has-trees =
       let G = graphed-kept (columns 84 122 ∷ []) w w2 n (H .ns) plan-kept tt tt tt tt (H .graphed) in
       record { graph = record { ns = H .ns; graphed = G }; ranked = ranked-after (H .ns) G; kept = T }
+
+-- a table holds one graph
+pub list-room : (work : Bytes) (n room : ℕ) (ns : List VersionNode) (p : EntityPath) (s : SpanQuestion) → HasList work n p s room → Graphed work n ns
+    → 122 + 97 * p .depth + length (joined (listed-strings ns (reached-entity ns p) s)) ≤ room
+list-room work n room ns p s H G =
+    let K = H .graph .graphed in
+    subst (λ (xs : List VersionNode). 122 + 97 * p .depth + length (joined (listed-strings xs (reached-entity xs p) s)) ≤ room)
+    (sym (K .digested .filled .nodes) ∙ ap (nodes-in work) (sym (K .number) ∙ G .number) ∙ G .digested .filled .nodes) (H .space)

@@ -3,11 +3,11 @@ use mathlib.Core.Path.{_≡_, refl, sym, ap, ap₂, _∙_, subst}
 use mathlib.Core.Logic.{_⊎_, inl, inr}
 use mathlib.Core.Bool.{Bool, true, false, not, _||_}
 use mathlib.Core.List.{List, _++_, map}
-use Prim.Native.Nat.{ℕ, _+_, _-_, _*_, _≤_, _<_}
+use Prim.Native.Nat.{ℕ, _+_, _-_, _≤_, _<_}
 use native.Mathlib.Omega.{arith}
 use borrow.Author.Tests.{lt-ltb, le-ltb, le-leb, lt-leb}
 use lib.Dec.{ltb, leb}
-use lib.ListN.{length, take, drop, getD, length-drop}
+use lib.ListN.{length, take, drop, length-drop}
 use lib.Seq.{length-take-le, take-append-seam, drop-append-seam}
 use Rattle.fields.proofs.Numbers.{le-or-lt}
 use Rattle.question.specs.declared.EntityKey.{EntityKey}
@@ -365,7 +365,7 @@ pub time-sought : {A : Type 0} (l : Layout A) (q : Declared) (t : TimeKey) (insi
 unfolding descentOf
 time-sought l q t inside a xs r S = S
 
-pub entity-sought : {A : Type 0} (l : Layout A) (e : EntityKey) (inside : A → Opened) (a : A) (xs : List A) (r : Sought) → SoughtIs l (descentOf (ByEntity e)) inside a xs r
-    → SoughtIs l (by-entity (e .0)) inside a xs r
+pub entity-sought : {A : Type 0} (l : Layout A) (e : EntityKey) (x : ℕ) (inside : A → Opened) (a : A) (xs : List A) (r : Sought) → e .0 ≡ x → SoughtIs l (descentOf (ByEntity e)) inside a xs r
+    → SoughtIs l (by-entity x) inside a xs r
 unfolding descentOf
-entity-sought l e inside a xs r S = S
+entity-sought l e x inside a xs r z S = subst (λ (y : ℕ). SoughtIs l (by-entity y) inside a xs r) z S

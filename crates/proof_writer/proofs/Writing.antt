@@ -3,24 +3,26 @@ use mathlib.Core.Path.{_≡_, refl, sym, ap, ap₂, _∙_, subst}
 use mathlib.Core.List.{List, [], _∷_, _++_, append-nil, append-assoc}
 use Prim.Native.Nat.{ℕ, suc, _+_, _-_, _*_, _≤_, _<_}
 use native.Mathlib.Omega.{arith}
-use lib.ListN.{length, getD, length-append}
+use lib.ListN.{length, length-append}
 use Rattle.fields.specs.Fields.{part, field, written}
 use Rattle.fields.proofs.Places.{length-part}
 use Rattle.model.specs.Numbers.{Bytes, joined}
 use Rattle.model.specs.Graph.{VersionNode}
-use Rattle.model.specs.Accumulator.{Subtree as Known, tree, subtree, Leaf, leaf-string, group-string, root-string, versions-layout, no-leaf, entities-layout, no-group, Header, entities, version-leaves, group, entity-tree, root, leaf-at}
-use Rattle.model.specs.Question.{Question, Opened}
+use Rattle.model.specs.Accumulator.{Subtree as Known, subtree, Leaf, leaf-string, group-string, root-string, versions-layout, no-leaf, entities-layout, no-group, Header, entities, version-leaves, group, entity-tree, root, leaf-at}
+use Rattle.model.specs.Question.{SpanQuestion, Question, entity-of, Opened}
 use Rattle.model.specs.Answer.{proof}
 use Rattle.model.proofs.Strings.{joined-append, joined-length, num, text, none}
 use Rattle.model.proofs.Open.{root-length, group-length}
 use Rattle.question.specs.declared.EntityKey.{EntityKey}
 use Rattle.question.specs.declared.TimeKey.{TimeKey}
+use Rattle.question.specs.declared.SpanQuestion.{SpanQuestion as Declared}
+use Rattle.question.specs.Directions.{spanOf}
 use Rattle.graph.proofs.Nodes.{map-length}
 use Rattle.accumulator.specs.Trees.{leafOf}
 use Rattle.accumulator.specs.Halves.{own, subtree-of, path-to}
 use Rattle.accumulator.proofs.Splitting.{subtree-of-tree}
 use Rattle.accumulator.proofs.Strings.{then}
-use Rattle.trees.specs.Tables.{slot-leaf, Graphed, HasGraph, groups, versions, version-at}
+use Rattle.trees.specs.Tables.{slot-leaf, Graphed, groups, versions, version-at}
 use Rattle.trees.proofs.EntityWalk.{slot-leaf-is}
 use Rattle.ranks.specs.declared.Ranks.{Ranks}
 use Rattle.ranks.specs.Ranked.{first-in, count-in, entity-at}
@@ -31,10 +33,10 @@ use Rattle.kept_trees.proofs.Graphs.{versions-are, versions-number, entities-ar
 use Rattle.proof_writer.specs.declared.Way.{Way}
 use Rattle.proof_writer.specs.declared.EntityPath.{EntityPath}
 use Rattle.proof_writer.specs.declared.Planned.{Planned}
-use Rattle.proof_writer.specs.declared.Planned.the-variants.{NoEntity, Unmet, Found}
-use Rattle.proof_writer.specs.Plans.{reached-entity, entity-path, entity-string, version-path, strings-of, path-of, length-of, PathIs, WayIs, RestIs, PlanIs, Plan, HasPlan, HasPath, HasWay, front-bytes, entity-bytes, walk-bytes}
+use Rattle.proof_writer.specs.declared.Planned.the-variants.{NoEntity, Unmet, Found, Listed}
+use Rattle.proof_writer.specs.Plans.{listed-strings, reached-entity, entity-path, entity-string, version-path, strings-of, path-of, length-of, PathIs, WayIs, RestIs, PlanIs, Plan, HasPlan, HasPath, HasWay, HasList, front-bytes, entity-bytes, walk-bytes, list-bytes}
 use Rattle.proof_writer.proofs.Descents.{digest-32}
-use Rattle.proof_writer.proofs.Planning.{reached-leaves, reached-number}
+use Rattle.proof_writer.proofs.Planning.{reached-leaves}
 
 -- ---- R and P
 
@@ -117,6 +119,19 @@ module _ (work : Bytes) (n : ℕ) (ns : List VersionNode) (G : Graphed work n ns
   unfolding entity-bytes
   entity-length h = length-append (front-bytes h ns p) (entity-string ns x) ∙ omega (arith, front-length h, entity-57)
 
+  -- ---- the strings that a span opens
+
+  pub list-is : (s : SpanQuestion) (h : Header) (out out1 out2 : Bytes) → 122 + 97 * p .depth + length (joined (listed-strings ns x s)) ≤ length out → out1 ≡ written out 0 (entity-bytes h ns p)
+      → out2 ≡ written out1 (122 + 97 * p .depth) (joined (listed-strings ns x s)) → out2 ≡ written out 0 (list-bytes h ns p s)
+  unfolding list-bytes
+  list-is s h out out1 out2 room e f =
+      let a = entity-length h in
+      then out out1 out2 (entity-bytes h ns p) (joined (listed-strings ns x s)) 0 (122 + 97 * p .depth) e f (omega arith) (omega arith)
+
+  pub list-length : (s : SpanQuestion) (h : Header) → length (list-bytes h ns p s) ≡ 122 + 97 * p .depth + length (joined (listed-strings ns x s))
+  unfolding list-bytes
+  list-length s h = length-append (entity-bytes h ns p) (joined (listed-strings ns x s)) ∙ omega (arith, entity-length h)
+
   -- ---- N
 
   module _ (w : Way) where
@@ -196,14 +211,21 @@ module _ (h : Header) (ns : List VersionNode) (p : EntityPath) (x : ℕ) (name :
       ∙ ap (λ (b : Bytes). (joined front ++ G) ++ b) (ap (λ (b : Bytes). joined way ++ b) (sym (append-nil l)) ∙ sym (joined-append way (l ∷ [])))
       ∙ sym (joined-behind front G (way ++ (l ∷ [])))
 
+pub list-strings : (h : Header) (ns : List VersionNode) (p : EntityPath) (x : ℕ) (s : SpanQuestion) → reached-entity ns p ≡ x
+    → list-bytes h ns p s ≡ joined (root h ns ∷ (entity-path ns p ++ (entity-string ns x ∷ listed-strings ns x s)))
+unfolding list-bytes entity-bytes front-bytes
+list-strings h ns p x s name =
+    ap (λ (y : ℕ). ((root h ns ++ joined (entity-path ns p)) ++ entity-string ns y) ++ joined (listed-strings ns y s)) name
+    ∙ sym (joined-behind (root h ns ∷ entity-path ns p) (entity-string ns x) (listed-strings ns x s))
+
 module _ (work : Bytes) (n : ℕ) (r : Planned) where
   -- the proof's strings are those of the plan
-  pub proof-strings : (h : Header) (q : Question) (ns : List VersionNode) (I : PlanIs work ns q r) → joined (proof h ns q .opened) ≡ joined (root h ns ∷ strings-of ns (q .entity) r)
+  pub proof-strings : (h : Header) (q : Question) (ns : List VersionNode) (I : PlanIs work ns q r) → joined (proof h ns q .opened) ≡ joined (root h ns ∷ strings-of ns (entity-of q) r)
   unfolding proof
   proof-strings h q ns I = ap (λ (w : Opened). joined (root h ns ∷ w .opened)) (I .is)
 
-  path-at : (ns : List VersionNode) (q : Question) (z : Planned) → r ≡ z → PlanIs work ns q r → PathIs work ns (path-of z) × RestIs ns (q .entity) z
-  path-at ns q z e I = (subst (λ (y : Planned). PathIs work ns (path-of y)) e (I .path), subst (RestIs ns (q .entity)) e (I .rest))
+  path-at : (ns : List VersionNode) (q : Question) (z : Planned) → r ≡ z → PlanIs work ns q r → PathIs work ns (path-of z) × RestIs ns (entity-of q) z
+  path-at ns q z e I = (subst (λ (y : Planned). PathIs work ns (path-of y)) e (I .path), subst (RestIs ns (entity-of q)) e (I .rest))
 
   module _ (size : ℕ) (p : EntityPath) (e : r ≡ NoEntity size p) where
     no-entity-at : (ns : List VersionNode) (q : Question) → PlanIs work ns q r → PathIs work ns p × (size ≡ 65 + 97 * p .depth)
@@ -221,10 +243,10 @@ module _ (work : Bytes) (n : ℕ) (r : Planned) where
     unfolding strings-of front-bytes
     no-entity-done h out out1 f q P ns G =
         let I = P .of ns G in
-        f ns G (no-entity-at ns q I .0) ∙ ap (written out 0) (sym (proof-strings h q ns I ∙ ap (λ (z : Planned). joined (root h ns ∷ strings-of ns (q .entity) z)) e))
+        f ns G (no-entity-at ns q I .0) ∙ ap (written out 0) (sym (proof-strings h q ns I ∙ ap (λ (z : Planned). joined (root h ns ∷ strings-of ns (entity-of q) z)) e))
 
   module _ (size : ℕ) (p : EntityPath) (w : Way) (e : r ≡ Unmet size p w) where
-    unmet-at : (ns : List VersionNode) (q : Question) → PlanIs work ns q r → PathIs work ns p × WayIs ns (q .entity) p w × (size ≡ 122 + 97 * p .depth + 97 * w .depth)
+    unmet-at : (ns : List VersionNode) (q : Question) → PlanIs work ns q r → PathIs work ns p × WayIs ns (entity-of q) p w × (size ≡ 122 + 97 * p .depth + 97 * w .depth)
     unfolding path-of RestIs
     unmet-at ns q I = let J = path-at ns q (Unmet size p w) e I in (J .0, J .1 .0, J .1 .1)
 
@@ -246,10 +268,10 @@ module _ (work : Bytes) (n : ℕ) (r : Planned) where
         let I = P .of ns G in
         let J = unmet-at ns q I in
         f ns G (J .0) (unmet-way ns q I)
-        ∙ ap (written out 0) (walk-strings h ns p (q .entity) (J .1 .name) w ∙ sym (proof-strings h q ns I ∙ ap (λ (z : Planned). joined (root h ns ∷ strings-of ns (q .entity) z)) e))
+        ∙ ap (written out 0) (walk-strings h ns p (entity-of q) (J .1 .name) w ∙ sym (proof-strings h q ns I ∙ ap (λ (z : Planned). joined (root h ns ∷ strings-of ns (entity-of q) z)) e))
 
   module _ (size : ℕ) (p : EntityPath) (w : Way) (slot : ℕ) (e : r ≡ Found size p w slot) where
-    found-at : (ns : List VersionNode) (q : Question) → PlanIs work ns q r → PathIs work ns p × WayIs ns (q .entity) p w × (slot < length ns) × (size ≡ 122 + 97 * p .depth + (97 * w .depth + 77))
+    found-at : (ns : List VersionNode) (q : Question) → PlanIs work ns q r → PathIs work ns p × WayIs ns (entity-of q) p w × (slot < length ns) × (size ≡ 122 + 97 * p .depth + (97 * w .depth + 77))
     unfolding path-of RestIs
     found-at ns q I = let J = path-at ns q (Found size p w slot) e I in (J .0, J .1 .0, J .1 .1, J .1 .2)
 
@@ -272,4 +294,32 @@ module _ (work : Bytes) (n : ℕ) (r : Planned) where
         let J = found-at ns q I in
         f ns G (J .0) (found-way ns q I)
         ∙ ap (written out 0)
-        (found-strings h ns p (q .entity) (J .1 .name) w (leaf-string (version-at ns slot .leaf)) ∙ sym (proof-strings h q ns I ∙ ap (λ (z : Planned). joined (root h ns ∷ strings-of ns (q .entity) z)) e))
+        (found-strings h ns p (entity-of q) (J .1 .name) w (leaf-string (version-at ns slot .leaf)) ∙ sym (proof-strings h q ns I ∙ ap (λ (z : Planned). joined (root h ns ∷ strings-of ns (entity-of q) z)) e))
+
+  module _ (size : ℕ) (p : EntityPath) (s : Declared) (e : r ≡ Listed size p s) where
+    listed-at : (ns : List VersionNode) (q : Question) → PlanIs work ns q r
+        → PathIs work ns p × (reached-entity ns p ≡ entity-of q) × (size ≡ 122 + 97 * p .depth + length (joined (listed-strings ns (entity-of q) (spanOf s))))
+    unfolding path-of RestIs
+    listed-at ns q I = let J = path-at ns q (Listed size p s) e I in (J .0, J .1 .0, J .1 .1)
+
+    pub listed-ready : HasPlan work n r → (room : ℕ) → length-of r ≤ room → HasList work n p (spanOf s) room
+    unfolding length-of
+    listed-ready H room l =
+        let ns = H .graph .ns in
+        let I = listed-at ns (H .q) (H .plan .of ns (H .graph .graphed)) in
+        record {
+          graph = H .graph;
+          path = I .0;
+          space =
+              subst (λ (y : ℕ). 122 + 97 * p .depth + length (joined (listed-strings ns y (spanOf s))) ≤ room) (sym (I .1))
+              (let z : 122 + 97 * p .depth + length (joined (listed-strings ns (entity-of (H .q)) (spanOf s))) ≤ room = omega (arith, I .2, ap length-of e) in z);
+        }
+
+    pub listed-done : (h : Header) (out out1 : Bytes) → ((ns : List VersionNode) → Graphed work n ns → PathIs work ns p → out1 ≡ written out 0 (list-bytes h ns p (spanOf s)))
+        → (q : Question) → Plan work n q r → (ns : List VersionNode) → Graphed work n ns → out1 ≡ written out 0 (joined (proof h ns q .opened))
+    unfolding strings-of
+    listed-done h out out1 f q P ns G =
+        let I = P .of ns G in
+        let J = listed-at ns q I in
+        f ns G (J .0)
+        ∙ ap (written out 0) (list-strings h ns p (entity-of q) (spanOf s) (J .1) ∙ sym (proof-strings h q ns I ∙ ap (λ (z : Planned). joined (root h ns ∷ strings-of ns (entity-of q) z)) e))

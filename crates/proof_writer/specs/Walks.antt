@@ -1,6 +1,6 @@
 -- The walk through one of the two trees, by the keys of its leaves: where it goes on, and where it ends. Assumes nothing.
 use mathlib.Core.Path.{_≡_}
-use mathlib.Core.Bool.{Bool, true, false, cond}
+use mathlib.Core.Bool.{Bool, false, cond}
 use mathlib.Core.List.{List, _++_}
 use Prim.Native.Nat.{ℕ, _+_, _-_, _*_, _≤_, _<_}
 use lib.ListN.{length, getD}
@@ -8,17 +8,25 @@ use Rattle.model.specs.Numbers.{Bytes, joined}
 use Rattle.model.specs.Accumulator.{Subtree as Known, tip, Layout, subtree, tree, largest-power-below, VersionLeaf, versions-layout, no-leaf, Group, entities-layout, no-group}
 use Rattle.model.specs.Question as model
 use Rattle.model.specs.Question.{SearchEnd, by-entity, by-time, Opened, stop, after, open-tree}
-use Rattle.question.specs.Directions.{relationOf}
+use Rattle.question.specs.Directions.{relationOf, questionOf, spanOf}
 use Rattle.accumulator.specs.Halves.{own, path-to}
 use Rattle.kept_trees.specs.declared.Row.{Row}
 use Rattle.kept_trees.specs.declared.Row.the-variants.{Versions, Entities}
 use Rattle.ranks.specs.declared.Ranks.{Ranks}
 use Rattle.kept_trees.specs.Leaves.{size-of}
+use Rattle.proof_writer.specs.declared.Query.{Query}
+use Rattle.proof_writer.specs.declared.Query.the-variants.{One, All}
 use Rattle.proof_writer.specs.declared.Stretch.{Stretch}
 use Rattle.proof_writer.specs.declared.Descent.{Descent}
 use Rattle.proof_writer.specs.declared.Descent.the-variants.{ByEntity, ByTime}
 use Rattle.proof_writer.specs.declared.Sought.{Sought}
 use Rattle.proof_writer.specs.declared.Sought.the-variants.{Stopped, Reached}
+
+-- ---- what is asked
+
+abbrev pub queryOf : Query → model.Question
+queryOf (One q) = model.one (questionOf q)
+queryOf (All s) = model.all (spanOf s)
 
 -- ---- descents
 

@@ -35,10 +35,10 @@ ghost use Rattle.trees.specs.Tables.{Graphed, HasGraph, version-at};
 ghost use Rattle.ranks.specs.Ranked.{Ranked, RankedAs};
 ghost use Rattle.kept_trees.specs.declared.Row.the-variants.{Versions, Entities};
 ghost use Rattle.kept_trees.specs.Leaves.{stretch, tree-of, versions-row, entities-row, row-of, size-of};
-ghost use Rattle.proof_writer.specs.Walks.{descentOf, rowOf, LeafOf, layout-of, none-of, Among, half-of, SoughtIs, Leads};
+ghost use Rattle.proof_writer.specs.Walks.{queryOf, descentOf, rowOf, LeafOf, layout-of, none-of, Among, half-of, SoughtIs, Leads};
 ghost use Rattle.kept_trees.specs.Kept.{KeptTree};
 ghost use Rattle.proof_writer.specs.Spans.{span-strings, SpanFits};
-ghost use Rattle.proof_writer.specs.Plans.{reached-entity, entity-path, entity-string, version-path, front-bytes, entity-bytes, walk-bytes, length-of, PathIs, WayIs, PlanIs, Plan, HasPlan, HasTrees, HasPath, HasWay, Reaches};
+ghost use Rattle.proof_writer.specs.Plans.{reached-entity, entity-string, version-path, front-bytes, entity-bytes, walk-bytes, list-bytes, length-of, PathIs, WayIs, PlanIs, Plan, HasPlan, HasTrees, HasPath, HasWay, HasList, Reaches};
 
 // ---- the walk through a tree
 
@@ -102,9 +102,7 @@ fn version_left(
 {
     match relation {
         Relation::AtOrBefore => time.below(ranks::time_at(work, ranks, leaves.from + k)),
-        Relation::AtOrAfter => {
-            !ranks::time_at(work, ranks, leaves.from + (k - 1)).below(time)
-        }
+        Relation::AtOrAfter => { !ranks::time_at(work, ranks, leaves.from + (k - 1)).below(time) }
     }
 }
 
@@ -288,7 +286,16 @@ fn put_span(
         from: leaves.from + k,
         n: leaves.n - k,
     };
-    let middle = put_span(work, n, ranks, left, span, out, at + BRANCH_WIDTH, constants);
+    let middle = put_span(
+        work,
+        n,
+        ranks,
+        left,
+        span,
+        out,
+        at + BRANCH_WIDTH,
+        constants,
+    );
     put_span(work, n, ranks, right, span, out, middle, constants)
 }
 
@@ -311,7 +318,7 @@ pub struct EntityPath {
 }
 
 // How a proof ends (`Unmet`: no version of the entity meets the time), its length, and what writing it needs: the ways through the two
-// trees, and the slot of the version found.
+// trees and the slot of the version found, or the span of the versions listed.
 pub enum Planned {
     NoEntity {
         length: usize,
@@ -328,12 +335,17 @@ pub enum Planned {
         way: Way,
         slot: usize,
     },
+    Listed {
+        length: usize,
+        path: EntityPath,
+        span: SpanQuestion,
+    },
 }
 
 // The plan from the entity's leaf on.
 fn plan_versions(work: &[u8], n: usize, path: EntityPath, question: Question) -> Planned
     requires { ⌜ HasPath (now work) n path ⌝ }
-    ensures { λ r. ⌜ ((ns : List VersionNode) → Graphed (now (work .entry)) n ns → Reaches (now (work .entry)) ns (questionOf question) path → PlanIs (now (work .entry)) ns (questionOf question) r) ⌝ }
+    ensures { λ r. ⌜ ((ns : List VersionNode) → Graphed (now (work .entry)) n ns → Reaches (now (work .entry)) ns (model.one (questionOf question)) path → PlanIs (now (work .entry)) ns (model.one (questionOf question)) r) ⌝ }
 {
     let ranks = path.ranks;
     let from = ranks::first_at(work, ranks, path.target);
@@ -366,12 +378,57 @@ fn plan_versions(work: &[u8], n: usize, path: EntityPath, question: Question) ->
     }
 }
 
-// The plan over kept trees.
-fn plan_entity(work: &[u8], n: usize, ranks: Ranks, question: Question) -> Planned
-    requires { ⌜ HasTrees (now work) n ranks ⌝ }
-    ensures { λ r. ⌜ ((ns : List VersionNode) → Graphed (now (work .entry)) n ns → RankedAs (now (work .entry)) ns ranks → PlanIs (now (work .entry)) ns (questionOf question) r) ⌝ }
+// The plan of a list from the entity's leaf on.
+fn plan_span(work: &[u8], n: usize, path: EntityPath, span: SpanQuestion) -> Planned
+    requires { ⌜ HasPath (now work) n path ⌝ }
+    ensures { λ r. ⌜ ((ns : List VersionNode) → Graphed (now (work .entry)) n ns → Reaches (now (work .entry)) ns (model.all (spanOf span)) path → PlanIs (now (work .entry)) ns (model.all (spanOf span)) r) ⌝ }
 {
-    let entity = question.entity;
+    let ranks = path.ranks;
+    let from = ranks::first_at(work, ranks, path.target);
+    let count = ranks::first_at(work, ranks, path.target + 1) - from;
+    let leaves = Stretch {
+        from: from,
+        n: count,
+    };
+    let length = R_G_WIDTH + BRANCH_WIDTH * path.depth;
+    Planned::Listed {
+        length: length + span_length(work, ranks, leaves, span),
+        path: path,
+        span: span,
+    }
+}
+
+// What is asked for: one version of an entity, or all between two times.
+pub enum Query {
+    One { question: Question },
+    All { span: SpanQuestion },
+}
+
+fn entity_of(query: Query) -> EntityKey
+    ensures { λ r. ⌜ r .0 ≡ model.entity-of (queryOf query) ⌝ }
+{
+    match query {
+        Query::One { question } => question.entity,
+        Query::All { span } => span.entity,
+    }
+}
+
+fn plan_below(work: &[u8], n: usize, path: EntityPath, query: Query) -> Planned
+    requires { ⌜ HasPath (now work) n path ⌝ }
+    ensures { λ r. ⌜ ((ns : List VersionNode) → Graphed (now (work .entry)) n ns → Reaches (now (work .entry)) ns (queryOf query) path → PlanIs (now (work .entry)) ns (queryOf query) r) ⌝ }
+{
+    match query {
+        Query::One { question } => plan_versions(work, n, path, question),
+        Query::All { span } => plan_span(work, n, path, span),
+    }
+}
+
+// The plan over kept trees.
+fn plan_entity(work: &[u8], n: usize, ranks: Ranks, query: Query) -> Planned
+    requires { ⌜ HasTrees (now work) n ranks ⌝ }
+    ensures { λ r. ⌜ ((ns : List VersionNode) → Graphed (now (work .entry)) n ns → RankedAs (now (work .entry)) ns ranks → PlanIs (now (work .entry)) ns (queryOf query) r) ⌝ }
+{
+    let entity = entity_of(query);
     let descent = Descent::ByEntity { entity: entity };
     match seek(descent, work, ranks, 0, ranks.entities) {
         Sought::Stopped { target, depth } => Planned::NoEntity {
@@ -388,20 +445,20 @@ fn plan_entity(work: &[u8], n: usize, ranks: Ranks, question: Question) -> Plann
                 target: target,
                 depth: depth,
             };
-            plan_versions(work, n, path, question)
+            plan_below(work, n, path, query)
         }
     }
 }
 
 // Keeps the trees and plans the proof.
-pub fn plan(work: &mut [u8], n: usize, question: Question, constants: &[u32; 64]) -> Planned
+pub fn plan(work: &mut [u8], n: usize, query: Query, constants: &[u32; 64]) -> Planned
     requires { ⌜ (HasGraph (now work) n) × (now constants ≡ K) ⌝ }
-    ensures plan { λ r. ⌜ Plan (now (work .exit)) n (questionOf question) r ⌝ }
+    ensures plan { λ r. ⌜ Plan (now (work .exit)) n (queryOf query) r ⌝ }
     ensures kept { λ _. ⌜ Kept (columns 84 122 ∷ []) (now (work .entry)) (now (work .exit)) ⌝ }
 {
     let ranks = ranks::rank_all(work, n);
     kept_trees::keep_trees(work, ranks, constants);
-    plan_entity(work, n, ranks, question)
+    plan_entity(work, n, ranks, query)
 }
 
 pub fn proof_length(plan: Planned) -> usize
@@ -416,6 +473,7 @@ pub fn proof_length(plan: Planned) -> usize
             way,
             slot,
         } => length,
+        Planned::Listed { length, path, span } => length,
     }
 }
 
@@ -570,6 +628,31 @@ fn put_found(
     );
 }
 
+// R, the strings P, G and the strings that a span opens.
+fn put_listed(
+    work: &[u8],
+    n: usize,
+    header: Header,
+    path: EntityPath,
+    span: SpanQuestion,
+    out: &mut [u8],
+    constants: &[u32; 64],
+)
+    requires { ⌜ HasList (now work) n path (spanOf span) (length (now out)) × (now constants ≡ K) ⌝ }
+    ensures { λ _. ⌜ ((ns : List VersionNode) → Graphed (now (work .entry)) n ns → PathIs (now (work .entry)) ns path → now (out .exit) ≡ written (now (out .entry)) 0 (list-bytes (headerOf header) ns path (spanOf span))) ⌝ }
+{
+    put_entity(work, n, header, path, out, constants);
+    let ranks = path.ranks;
+    let from = ranks::first_at(work, ranks, path.target);
+    let count = ranks::first_at(work, ranks, path.target + 1) - from;
+    let leaves = Stretch {
+        from: from,
+        n: count,
+    };
+    let at = R_G_WIDTH + BRANCH_WIDTH * path.depth;
+    put_span(work, n, ranks, leaves, span, out, at, constants);
+}
+
 // Writes the proof that was planned.
 pub fn write(
     plan: Planned,
@@ -593,5 +676,8 @@ pub fn write(
             way,
             slot,
         } => put_found(work, n, header, path, way, slot, out, constants),
+        Planned::Listed { length, path, span } => {
+            put_listed(work, n, header, path, span, out, constants)
+        }
     }
 }

@@ -40,6 +40,12 @@ pub const SUBTREE_GREATEST: usize = 8;
 
 pub const SUBTREE_DIGEST: usize = 16;
 
+// ---- a version's name in a list: its entity is in front
+
+pub const NAME_WIDTH: usize = 12;
+
+pub const NAME_TIME: usize = 4;
+
 // ---- the strings I and O: what stands before their edges, an edge string, and the link that it makes with a path digest
 
 pub const I_HEADER_WIDTH: usize = 2;

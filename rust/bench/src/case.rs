@@ -1,14 +1,14 @@
 //! A call with its input and the memory lent to it, for the proved library and the Rust version alike, and the strings that it hashes.
 
 use crate::shapes::{self, Asked};
-use crate::table::{Subject, DIRECTIONS};
+use crate::table::Subject;
 use calls::{Fields, Memory, Name};
 use reference::collision::{building, checking};
 use reference::forge::pieces;
 use reference::log::read;
 use reference::random::Random;
 use reference::sha256::sha256;
-use reference::{listing, Question, WORK};
+use reference::{listing, Question, BETWEEN, LIST_ENTRY, WORK};
 
 /// What a call does not take is empty or zero.
 #[derive(Clone, Debug, PartialEq, Eq)]
@@ -32,13 +32,17 @@ pub struct Lent {
 /// Bytes of a commitment.
 const COMMITMENT: usize = 32;
 
+/// Bytes of the list of a span's answer.
+fn list(answer: &[u8]) -> usize {
+    LIST_ENTRY * pieces(answer).strings.iter().filter(|string| string[0] == b'L').count()
+}
+
 impl Case {
     pub fn new(subject: &Subject) -> Self {
         let Subject { call, direction, shape, size } = *subject;
         let input = if call == Name::Hash { Random::new(size as u64).bytes(size) } else { shapes::log(shape, size) };
-        let asked = || Asked::new(&input, DIRECTIONS.iter().position(|name| *name == direction).expect("a direction") as u8);
-        let question = Question { direction: 0, entity: 0, time: 0 };
-        let blank = |input| Case { call, question, input, work: 0, out: 0 };
+        let asked = || Asked::new(&input, direction);
+        let blank = |input| Case { call, question: Question::new(0, 0, 0), input, work: 0, out: 0 };
         match call {
             Name::Hash => Case { out: 32, ..blank(input) },
             Name::Log => blank(input),
@@ -51,7 +55,8 @@ impl Case {
             Name::Check | Name::Records => {
                 let Asked { question, commitment, answer } = asked();
                 let work = WORK * pieces(&answer).records.len();
-                Case { question, work, ..blank([&commitment[..], &answer].concat()) }
+                let out = if question.direction == BETWEEN { list(&answer) } else { 0 };
+                Case { question, work, out, ..blank([&commitment[..], &answer].concat()) }
             }
         }
     }
@@ -88,18 +93,18 @@ impl Case {
 
     /// The case as words, all but the input.
     pub fn words(&self) -> Vec<String> {
-        let Question { direction, entity, time } = self.question;
-        let numbers = [u64::from(direction), u64::from(entity), time, self.work as u64, self.out as u64];
+        let Question { direction, entity, time, until } = self.question;
+        let numbers = [u64::from(direction), u64::from(entity), time, until, self.work as u64, self.out as u64];
         [self.call.word()].into_iter().chain(numbers.map(|number| number.to_string())).collect()
     }
 
     pub fn from_words(words: &[String], input: Vec<u8>) -> Option<Self> {
         let (name, numbers) = words.split_first()?;
         let numbers: Vec<u64> = numbers.iter().map(|word| word.parse()).collect::<Result<_, _>>().ok()?;
-        let [direction, entity, time, work, out] = numbers[..] else {
+        let [direction, entity, time, until, work, out] = numbers[..] else {
             return None;
         };
-        let question = Question { direction: direction as u8, entity: entity as u32, time };
+        let question = Question { until, ..Question::new(direction as u8, entity as u32, time) };
         Some(Case { call: Name::of_word(name)?, question, input, work: work as usize, out: out as usize })
     }
 }
@@ -120,7 +125,7 @@ mod tests {
     use calls::NAMES;
     use crate::heap::peak;
     use crate::stack::{used, written};
-    use crate::table::subjects;
+    use crate::table::{subjects, DIRECTIONS, SPANS};
 
     /// Every row of the table, with few records.
     fn small() -> Vec<Case> {
@@ -192,11 +197,16 @@ mod tests {
         }
     }
 
+    /// The check of a span with as many N strings on a path as there can be.
+    fn deep() -> Case {
+        Case::new(&Subject { call: Name::Check, direction: SPANS[0], shape: "busy", size: 40_000 })
+    }
+
     /// No call takes more, and none is said to take twice what it does.
     #[test]
     fn calls_take_the_stack_that_the_viewer_says() {
         let mut most = [0; NAMES.len()];
-        for case in small().into_iter().chain(on_a_log()) {
+        for case in small().into_iter().chain(on_a_log()).chain([deep()]) {
             let mut lent = case.lent();
             let bytes = used(&mut || proved(&case, &mut lent));
             most[case.call as usize] = most[case.call as usize].max(bytes);
@@ -225,8 +235,8 @@ mod tests {
             assert_eq!(Case::from_words(&case.words(), case.input.clone()), Some(case));
         }
         let words = |text: &str| text.split(' ').map(str::to_string).collect::<Vec<_>>();
-        assert!(Case::from_words(&words("log 0 0 0 0 0"), Vec::new()).is_some());
-        for wrong in ["logs 0 0 0 0 0", "log 0 0 0 0", "log 0 0 0 0 0 0", "log 0 0 x 0 0"] {
+        assert!(Case::from_words(&words("log 0 0 0 0 0 0"), Vec::new()).is_some());
+        for wrong in ["logs 0 0 0 0 0 0", "log 0 0 0 0 0", "log 0 0 0 0 0 0 0", "log 0 0 x 0 0 0"] {
             assert_eq!(Case::from_words(&words(wrong), Vec::new()), None);
         }
     }
@@ -237,8 +247,11 @@ mod tests {
         let strings = |call, direction| Case::new(&Subject { call, direction, shape: "turns", size: 40 }).strings();
         let count = |strings: Vec<Vec<u8>>| b"IOLGNPR".map(|letter| letters(&strings, letter));
         assert_eq!(count(strings(Name::Commitment, "-")), [40, 40, 40, 2, 38, 1, 1]);
-        for direction in DIRECTIONS {
-            assert_eq!(count(strings(Name::Answer, direction)), [40, 40, 40, 2, 38, 1, 0]);
+        for asked in DIRECTIONS.into_iter().chain(SPANS) {
+            assert_eq!(count(strings(Name::Answer, asked)), [40, 40, 40, 2, 38, 1, 0]);
+        }
+        for (span, expected) in SPANS.into_iter().zip([[0, 0, 20, 1, 19, 1, 1], [0, 0, 1, 1, 5, 1, 1], [0, 0, 0, 1, 5, 1, 1]]) {
+            assert_eq!(count(strings(Name::Check, span)), expected);
         }
         for call in [Name::Check, Name::Records] {
             for (only, backward, forward) in [("only", "backward", "forward"), ("only-after", "backward-after", "forward-after")] {

@@ -7,6 +7,8 @@ use reference::sample::{in_turn, one_source};
 use reference::sha256::Digest;
 use reference::{Question, Way};
 
+use crate::table::DIRECTIONS;
+
 /// A sound log of that many records: births and flows at random, one birth in three, flows among a quarter as many entities, one source of
 /// every flow, or two entities that feed each other in turn.
 pub fn log(shape: &str, records: usize) -> Vec<u8> {
@@ -53,19 +55,64 @@ pub struct Asked {
     pub answer: Vec<u8>,
 }
 
+/// The entity and time of the version that a record makes.
+fn version(record: &Record) -> (u32, u64) {
+    let (Record::Birth { entity, time } | Record::Flow { destination: entity, time, .. }) = *record;
+    (entity, time)
+}
+
+/// Forward the question is for all that came of the log's first version, else for its last version, or all that led to it; at the version's
+/// own time, so that either relation finds it. In the shapes busy and turns that is the full history: every record, or every one but a birth.
+fn of_one(records: &[Record], direction: u8) -> Question {
+    let ask = |(entity, time)| Question::new(direction, entity, time);
+    let (first, last) = (ask(version(&records[0])), ask(version(&records[records.len() - 1])));
+    if first.way() == Some(Way::Forward) { first } else { last }
+}
+
+/// Of the last version's entity: all versions, the middle one, or none, which in the shape turns is a span between two of them.
+fn of_span(records: &[Record], span: &str) -> Question {
+    let entity = version(&records[records.len() - 1]).0;
+    let times: Vec<u64> = records.iter().map(version).filter(|version| version.0 == entity).map(|version| version.1).collect();
+    let middle = times[times.len() / 2];
+    match span {
+        "between-all" => Question::between(entity, 0, u64::MAX),
+        "between-one" => Question::between(entity, middle, middle),
+        _ => Question::between(entity, middle + 1, middle + 1),
+    }
+}
+
 impl Asked {
-    /// Forward the question is for all that came of the log's first version, else for its last version, or all that led to it; at the
-    /// version's own time, so that either relation finds it. In the shapes busy and turns that is the full history: every record, or every
-    /// one but a birth.
-    pub fn new(log: &[u8], direction: u8) -> Self {
+    /// A question of a direction, or for a span, by its word in the table.
+    pub fn new(log: &[u8], asked: &str) -> Self {
         let records = read(log).expect("a sound log");
-        let ask = |record| {
-            let (Record::Birth { entity, time } | Record::Flow { destination: entity, time, .. }) = record;
-            Question { direction, entity, time }
+        let question = match DIRECTIONS.iter().position(|direction| *direction == asked) {
+            Some(direction) => of_one(&records, direction as u8),
+            None => of_span(&records, asked),
         };
-        let (first, last) = (ask(records[0]), ask(records[records.len() - 1]));
-        let question = if first.way() == Some(Way::Forward) { first } else { last };
         let host = Host::new(&records);
         Asked { question, commitment: host.commitment(), answer: host.answer(&question) }
+    }
+}
+
+#[cfg(test)]
+mod tests {
+    use super::*;
+    use crate::table::SPANS;
+    use reference::forge::pieces;
+
+    /// The versions of a span, and the N strings of its answer.
+    fn spans(shape: &str, records: usize) -> [(usize, usize); 3] {
+        SPANS.map(|span| {
+            let log = log(shape, records);
+            let Asked { question, answer, .. } = Asked::new(&log, span);
+            let listed = Host::new(&read(&log).expect("a sound log")).versions_between(&question).expect("an entity");
+            (listed.len(), pieces(&answer).strings.iter().filter(|string| string[0] == b'N').count())
+        })
+    }
+
+    #[test]
+    fn spans_list_all_versions_or_one_or_none() {
+        assert_eq!(spans("busy", 40)[..2], [(39, 38), (1, 6)]);
+        assert_eq!(spans("turns", 40), [(20, 19), (1, 5), (0, 5)]);
     }
 }

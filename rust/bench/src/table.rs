@@ -5,11 +5,14 @@ use calls::Name;
 /// A question's directions by number.
 pub const DIRECTIONS: [&str; 6] = ["only", "backward", "forward", "only-after", "backward-after", "forward-after"];
 
+/// Spans, by how many versions they list.
+pub const SPANS: [&str; 3] = ["between-all", "between-one", "between-none"];
+
 /// What a row measures.
 #[derive(Clone, Copy, Debug, PartialEq, Eq)]
 pub struct Subject {
     pub call: Name,
-    /// A dash for a call without a question.
+    /// Or a span. A dash for a call without a question.
     pub direction: &'static str,
     /// The log's shape; for hash the Rust version that it is compared with.
     pub shape: &'static str,
@@ -21,8 +24,9 @@ pub struct Subject {
 const GROWTH: [usize; 2] = [8_192, 65_535];
 
 /// Calls, directions and shapes: for log and commitment the mixed shape and the worst of the others by time, for the calls on a question
-/// the worse of two full histories by instructions.
-const KINDS: [(Name, &str, &str); 20] = [
+/// the worse of two full histories by instructions; spans in the shape where an entity has most versions, and an empty one where it lies
+/// between two of them.
+const KINDS: [(Name, &str, &str); 26] = [
     (Name::Hash, "-", "tuned"),
     (Name::Hash, "-", "plain"),
     (Name::Log, "-", "mixed"),
@@ -36,21 +40,28 @@ const KINDS: [(Name, &str, &str); 20] = [
     (Name::Answer, "only-after", "busy"),
     (Name::Answer, "backward-after", "busy"),
     (Name::Answer, "forward-after", "turns"),
+    (Name::Answer, SPANS[0], "busy"),
+    (Name::Answer, SPANS[1], "busy"),
+    (Name::Answer, SPANS[2], "turns"),
     (Name::Check, "only", "busy"),
     (Name::Check, "backward", "busy"),
     (Name::Check, "forward", "turns"),
     (Name::Check, "only-after", "busy"),
     (Name::Check, "backward-after", "busy"),
     (Name::Check, "forward-after", "turns"),
+    (Name::Check, SPANS[0], "busy"),
+    (Name::Check, SPANS[1], "busy"),
+    (Name::Check, SPANS[2], "turns"),
     (Name::Records, "forward", "turns"),
 ];
 
-/// A direction at or after a time differs from that at or before in the walk alone, so it has the sizes of the growth and no other.
+/// A direction at or after a time differs from that at or before in the walk alone, so it has the sizes of the growth and no other; and so has a
+/// span.
 fn sizes(call: Name, direction: &str) -> &'static [usize] {
     match call {
         Name::Hash => &[97, 1 << 20],
         Name::Listing => &[512],
-        _ if direction.ends_with("-after") => &GROWTH,
+        _ if direction.ends_with("-after") || SPANS.contains(&direction) => &GROWTH,
         _ => &[1_024, GROWTH[0], GROWTH[1]],
     }
 }
@@ -188,6 +199,7 @@ mod tests {
     #[test]
     fn directions_have_the_viewers_words() {
         assert_eq!(DIRECTIONS.map(String::from), viewer::DIRECTIONS.map(|direction| direction.to_string()));
+        assert!(SPANS.iter().all(|span| span.starts_with(viewer::Span::WORD) && span.len() <= WIDTHS[1]));
     }
 
     #[test]

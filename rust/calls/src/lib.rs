@@ -89,19 +89,19 @@ macro_rules! side {
         $(#[$comment])*
         #[inline]
         pub fn $side(name: Name, question: &Question, memory: Memory) -> Fields {
-            let Question { direction, entity, time } = *question;
+            let Question { direction, entity, time, until } = *question;
             let Memory { commitment, input, work, out } = memory;
             match name {
                 Name::Hash => fields!($calls::hash(input, out), number position),
                 Name::Log => fields!($calls::log(input), number position length),
                 Name::Listing => fields!($calls::listing(input, out), number position length),
                 Name::Commitment => fields!($calls::commitment(input, work, out), number position),
-                Name::Answer => fields!($calls::answer(direction, entity, time, input, work, out), number position length),
+                Name::Answer => fields!($calls::answer(direction, entity, time, until, input, work, out), number position length),
                 Name::Check => {
-                    let checked = $calls::check(direction, entity, time, commitment, input, work);
+                    let checked = $calls::check(direction, entity, time, until, commitment, input, work, out);
                     fields!(checked, number position verdict time count)
                 }
-                Name::Records => fields!($calls::records(direction, entity, time, commitment, input, work), start length),
+                Name::Records => fields!($calls::records(direction, entity, time, until, commitment, input, work), start length),
             }
         }
     };

@@ -3,7 +3,7 @@
 use std::env;
 
 use reference::hex;
-use viewer::Direction;
+use viewer::{Direction, Span, DIRECTIONS};
 
 use crate::failure::Failure;
 use crate::files;
@@ -18,8 +18,18 @@ pub fn asks_help(word: &str) -> bool {
     word == "--help" || word == "-h"
 }
 
+/// Whether a direction is the one that all versions between two times have.
+pub fn is_between(word: &str) -> bool {
+    word == Span::WORD || word == Span::DIRECTION.to_string()
+}
+
+/// The direction of a question about one version.
 pub fn direction(word: &str) -> Result<Direction, Failure> {
-    word.parse().map_err(|reason| Failure::Use(format!("DIRECTION '{word}' is {reason}")))
+    let unknown = |_| {
+        let words: String = DIRECTIONS.iter().map(|direction| format!("{direction}, ")).collect();
+        Failure::Use(format!("DIRECTION '{word}' is none of {words}{}, 0 to {}", Span::WORD, Span::DIRECTION))
+    };
+    word.parse().map_err(unknown)
 }
 
 /// A field's whole numbers, all of which fit 64 bits.
@@ -98,8 +108,9 @@ mod tests {
     fn a_word_that_is_no_direction_is_said() {
         assert_eq!(direction("backward"), Ok(Direction::Backward));
         assert_eq!((direction("backward-after"), direction("4")), (Ok(Direction::BackwardAfter), Ok(Direction::BackwardAfter)));
-        let said = "DIRECTION '6' is none of only, backward, forward, only-after, backward-after, forward-after, 0 to 5";
-        assert_eq!(direction("6"), Err(Failure::Use(said.into())));
+        let said = "DIRECTION '7' is none of only, backward, forward, only-after, backward-after, forward-after, between, 0 to 6";
+        assert_eq!(direction("7"), Err(Failure::Use(said.into())));
+        assert_eq!(["between", "6", "5", "7", "Between", ""].map(is_between), [true, true, false, false, false, false]);
     }
 
     #[test]

@@ -1,9 +1,10 @@
 //! The commands, each with its words, its help and what it does.
 
 use reference::hex::to_hex;
-use viewer::{Checked, Question, Refusal, DIGEST};
+use viewer::{Refusal, Span, DIGEST};
 
 use crate::args;
+use crate::asked::Asked;
 use crate::calls;
 use crate::command::{Command, Words};
 use crate::demo;
@@ -12,7 +13,7 @@ use crate::explain;
 use crate::failure::{Done, Failure};
 use crate::files;
 use crate::forge;
-use crate::history::{self, History};
+use crate::history::History;
 use crate::lanes;
 use crate::listing;
 use crate::mark;
@@ -20,6 +21,7 @@ use crate::names::Names;
 use crate::page::{self, Head};
 use crate::report;
 use crate::rows;
+use crate::said::Said;
 use crate::svg;
 use crate::textlog;
 
@@ -75,7 +77,7 @@ texts there, because many readers' numbers have 53 bits.
     },
     Command {
         name: "answer",
-        words: "LOG DIRECTION ENTITY TIME",
+        words: "LOG DIRECTION ENTITY TIME [UNTIL]",
         options: &["-o"],
         shown: "[-o FILE]",
         about: "the answer to a question about a log, as bytes",
@@ -84,36 +86,37 @@ texts there, because many readers' numbers have 53 bits.
     },
     Command {
         name: "ask",
-        words: "LOG DIRECTION ENTITY TIME",
+        words: "LOG DIRECTION ENTITY TIME [UNTIL]",
         options: &[],
         shown: "",
-        about: "commits to a log, answers a question about it, checks the answer and shows its history, all in one go",
+        about: "commits to a log, answers a question about it, checks the answer and shows its history or list, all in one go",
         details: "",
         run: ask,
     },
     Command {
         name: "check",
-        words: "COMMITMENT DIRECTION ENTITY TIME ANSWER",
+        words: "COMMITMENT DIRECTION ENTITY TIME [UNTIL] ANSWER",
         options: &["--json"],
         shown: "[--json]",
         about: "what an answer says, if it is the true one; else the row that refuses it",
         details: "\
-What was checked is said too: 'accepted: 2 at 35, backward: found 2 at 30, 3 records'. A refusal is said as 'refused NUMBER at
-POSITION: CAUSE', with status 1.
+What was checked is said too: 'accepted: 2 at 35, backward: found 2 at 30, 3 records'. A list of versions follows, a line each. A refusal
+is said as 'refused NUMBER at POSITION: CAUSE', with status 1.
 ",
         run: check,
     },
     Command {
         name: "show",
-        words: "COMMITMENT DIRECTION ENTITY TIME ANSWER",
+        words: "COMMITMENT DIRECTION ENTITY TIME [UNTIL] ANSWER",
         options: &["--graph", "--html", "--json", "--names", "--svg"],
         shown: "[--graph | --json] [--html FILE [--names FILE]] [--svg FILE]",
-        about: "a checked answer's history as text, and as a page for a browser (--html) or a picture for print (--svg) too",
+        about: "a checked answer's history or list as text, and a history as a page for a browser (--html) or a picture for print (--svg) too",
         details: "\
-A line a version, by rising time, with the edges that lead to it; with --graph as lanes, one for each entity while it is in play. The
-page needs nothing from outside and is pleasant for any number of records; the picture is, for some hundred. Time runs down in both.
-With '--html -' or '--svg -' that alone is written. A file of names has a line each: 'entity NUMBER NAME', 'kind NUMBER NAME' or
-'time unix', for times that are seconds since 1970. Names are shown in the page, and are not part of what is checked.
+A line a version, by rising time, with the edges that lead to it; with --graph as lanes, one for each entity while it is in play. A list
+has no edges, and is not drawn. The page needs nothing from outside and is pleasant for any number of records; the picture is, for some
+hundred. Time runs down in both. With '--html -' or '--svg -' that alone is written. A file of names has a line each: 'entity NUMBER
+NAME', 'kind NUMBER NAME' or 'time unix', for times that are seconds since 1970. Names are shown in the page, and are not part of what is
+checked.
 ",
         run: show,
     },
@@ -145,9 +148,10 @@ last line, with status 1.
         shown: "[--json] [--seed NUMBER] [--limit SECONDS] [--keep FOLDER] [-- PROGRAM WORD..]",
         about: "runs participants' programs on made logs, and counts the answers that the check accepts",
         details: "\
-HOST is run once for each question, with the direction (0 to 5), the entity and the time as its words and the log on standard input;
-it writes the answer to standard output and ends with status 0, within 10 seconds or the limit given. It is run as any program of yours
-is: nothing confines it. What follows '--' is put before HOST, or is the host if none is named: 'mark -- python3 host.py'.
+HOST is run once for each question, with the direction (0 to 6), the entity and the time as its words, in direction 6 the later time too,
+and the log on standard input; it writes the answer to standard output and ends with status 0, within 10 seconds or the limit given. It is
+run as any program of yours is: nothing confines it. What follows '--' is put before HOST, or is the host if none is named: 'mark --
+python3 host.py'.
 
 One HOST has a line a log. Several have a line each, with the same questions for all; a folder stands for the files in it, and for the
 file 'host' of each folder in it. The seed settles the logs and the questions; without one, a fresh one is drawn from the system's random
@@ -158,7 +162,7 @@ question, the answer and what is said of it, of several hosts in a folder each. 
     },
     Command {
         name: "mark --forge",
-        words: "LOG DIRECTION ENTITY TIME ANSWER",
+        words: "LOG DIRECTION ENTITY TIME [UNTIL] ANSWER",
         options: &[],
         shown: "",
         about: "whether a false answer passed the check, and then two different strings with one SHA-256 value",
@@ -220,22 +224,21 @@ fn commit(words: &Words) -> Done {
 }
 
 fn answer(words: &Words) -> Done {
-    let question = words.question(1)?;
+    let asked = words.asked(1)?;
     let name = words.plain(0);
-    let answer = calls::answer(&question, &files::read_log(name)?).map_err(|refusal| rows::refused_log(name, &refusal))?;
+    let answer = calls::answer(&asked, &files::read_log(name)?).map_err(|refusal| rows::refused_log(name, &refusal))?;
     files::write(words.output(), &answer)
 }
 
 /// What `check` and `show` have in common: the question, and the answer's bytes checked against the commitment.
-fn with_checked(words: &Words, then: impl FnOnce(&Question, &[u8; DIGEST], &Checked) -> Done) -> Done {
-    let question = words.question(1)?;
-    let (commitment, answer) = (words.plain(0), words.plain(4));
+fn with_checked(words: &Words, asked: &Asked, then: impl FnOnce(&[u8; DIGEST], &Said) -> Done) -> Done {
+    let (commitment, answer) = (words.plain(0), words.last());
     args::one_input(commitment, answer)?;
     let commitment = args::commitment(commitment)?;
     let answer = files::read(answer)?;
-    let said = |refusal: Refusal| if is_json(words) { report::refused(&refusal) } else { refusal.to_string() };
-    let checked = calls::checked(&question, &commitment, &answer).map_err(|refusal| Failure::Answer(said(refusal)))?;
-    then(&question, &commitment, &checked)
+    let told = |refusal: Refusal| if is_json(words) { report::refused(&refusal) } else { refusal.to_string() };
+    let said = calls::checked(asked, &commitment, &answer).map_err(|refusal| Failure::Answer(told(refusal)))?;
+    then(&commitment, &said)
 }
 
 /// Whether a result is written as JSON, for programs.
@@ -244,50 +247,76 @@ fn is_json(words: &Words) -> bool {
 }
 
 fn check(words: &Words) -> Done {
-    with_checked(words, |question, commitment, checked| {
-        let text = if is_json(words) { report::accepted(question, commitment, checked, None) } else { accepted(question, checked) };
+    let asked = words.asked(1)?;
+    with_checked(words, &asked, |commitment, said| {
+        let text = match said {
+            _ if is_json(words) => report::accepted(&asked, commitment, said, false),
+            // the list is the verdict
+            Said::Listed(_) => accepted(&asked, said) + &said.lines(),
+            _ => accepted(&asked, said),
+        };
         files::write("-", text.as_bytes())
     })
 }
 
 /// What an accepted answer says, with the question that it was checked for: two words that were exchanged show.
-fn accepted(question: &Question, checked: &Checked) -> String {
-    format!("accepted: {}: {}\n", history::asked(question), history::verdict(question, &checked.verdict))
+fn accepted(asked: &Asked, said: &Said) -> String {
+    format!("accepted: {asked}: {}\n", said.verdict(asked))
 }
 
 /// Commits, answers, checks and shows.
 fn ask(words: &Words) -> Done {
-    let question = words.question(1)?;
+    let asked = words.asked(1)?;
     let name = words.plain(0);
     let log = files::read_log(name)?;
     let refused = |refusal: Refusal| rows::refused_log(name, &refusal);
     let commitment = calls::commitment(&log).map_err(refused)?;
-    let answer = calls::answer(&question, &log).map_err(refused)?;
-    let checked = calls::checked(&question, &commitment, &answer).map_err(|refusal| Failure::Answer(refusal.to_string()))?;
-    let text = History::of(&question, &checked).text();
-    files::write("-", format!("commitment {}\n{}{text}", to_hex(&commitment), accepted(&question, &checked)).as_bytes())
+    let answer = calls::answer(&asked, &log).map_err(refused)?;
+    let said = calls::checked(&asked, &commitment, &answer).map_err(|refusal| Failure::Answer(refusal.to_string()))?;
+    files::write("-", format!("commitment {}\n{}{}", to_hex(&commitment), accepted(&asked, &said), said.lines()).as_bytes())
 }
 
 fn show(words: &Words) -> Done {
+    let asked = words.asked(1)?;
+    if let Asked::All(_) = asked {
+        undrawn(words)?;
+    }
     let names = words.option("--names").map(Names::read).transpose()?;
-    with_checked(words, |question, commitment, checked| {
-        let history = History::of(question, checked);
-        let verdict = history::verdict(question, &checked.verdict);
-        if let Some(file) = words.option("--svg") {
-            let title = format!("{}: {verdict}", history::asked(question));
-            files::write(file, svg::picture(&title, &history).as_bytes())?;
-        }
-        if let Some(file) = words.option("--html") {
-            let head = Head { question, verdict: &verdict, commitment: &to_hex(commitment) };
-            files::write(file, page::page(&head, &history, names.as_ref()).as_bytes())?;
+    with_checked(words, &asked, |commitment, said| {
+        let verdict = said.verdict(&asked);
+        if let (Asked::One(question), Said::One(_, history)) = (&asked, said) {
+            drawn(words, &Head { question, verdict: &verdict, commitment: &to_hex(commitment) }, history, names.as_ref())?;
         }
         if ["--svg", "--html"].iter().any(|option| words.option(option) == Some("-")) {
             return Ok(());
         }
         if is_json(words) {
-            return files::write("-", report::accepted(question, commitment, checked, Some(&history)).as_bytes());
+            return files::write("-", report::accepted(&asked, commitment, said, true).as_bytes());
         }
-        let text = if words.option("--graph").is_some() { lanes::text(&history) } else { history.text() };
+        let text = match said {
+            Said::One(_, history) if words.option("--graph").is_some() => lanes::text(history),
+            _ => said.lines(),
+        };
         files::write("-", format!("{verdict}\n{text}").as_bytes())
     })
+}
+
+/// A list has no edges, so there is nothing to draw.
+fn undrawn(words: &Words) -> Done {
+    match ["--graph", "--html", "--svg"].into_iter().find(|option| words.option(option).is_some()) {
+        Some(option) => Err(Failure::Use(format!("{option} draws a history: '{}' has a list, as text or with --json", Span::WORD))),
+        None => Ok(()),
+    }
+}
+
+/// The picture and the page, if they are asked for.
+fn drawn(words: &Words, head: &Head, history: &History, names: Option<&Names>) -> Done {
+    if let Some(file) = words.option("--svg") {
+        let title = format!("{}: {}", Asked::One(*head.question), head.verdict);
+        files::write(file, svg::picture(&title, history).as_bytes())?;
+    }
+    match words.option("--html") {
+        Some(file) => files::write(file, page::page(head, history, names).as_bytes()),
+        None => Ok(()),
+    }
 }

@@ -23,10 +23,11 @@ pub fn said(answer: &[u8], truth: &[u8]) -> Option<String> {
 #[cfg(test)]
 mod tests {
     use super::*;
+    use crate::asked::Asked;
     use viewer::{Direction, Question};
 
     fn truth() -> Vec<u8> {
-        let question = Question { direction: Direction::Backward, entity: 2, time: 35 };
+        let question = Asked::One(Question { direction: Direction::Backward, entity: 2, time: 35 });
         crate::calls::answer(&question, &reference::log::write(&reference::sample::log_k())).unwrap()
     }
 

@@ -141,16 +141,16 @@ impl Reader<'_> {
         Ok(self.unless_ended("NL"))
     }
 
-    /// P or N. Below an N there is always a leaf.
+    /// P or N. What was asked between two times may end behind an N.
     fn two_subtrees(&mut self, tree: Tree) -> Result<Option<&'static str>, String> {
         for side in ["left", "right"] {
             let keys = self.rest().get(..16).map(|keys| (number(&keys[..8]), number(&keys[8..])));
             self.subtree(&format!("{side}{}", keys.map_or(String::new(), |keys| tree.span(self.entity, keys))))?;
         }
-        match tree {
-            Tree::Entities => Ok(self.unless_ended("PG")),
-            Tree::Versions => Ok(Some("NL")),
-        }
+        Ok(self.unless_ended(match tree {
+            Tree::Entities => "PG",
+            Tree::Versions => "NL",
+        }))
     }
 
     fn subtree(&mut self, name: &str) -> Result<(), String> {
@@ -165,7 +165,8 @@ impl Reader<'_> {
         self.field(8, "time")?;
         self.field(32, "incoming digest")?;
         self.field(32, "outgoing digest")?;
-        Ok(self.unless_ended("BF"))
+        // a trace, or the next string of a list
+        Ok(self.unless_ended("BFNL"))
     }
 
     fn trace(&mut self, backward: bool) -> Result<Option<&'static str>, String> {
@@ -235,7 +236,8 @@ fn number(bytes: &[u8]) -> u64 {
 mod tests {
     use super::*;
     use reference::random::Random;
-    use viewer::{Question, DIRECTIONS};
+    use crate::asked::Asked;
+    use viewer::{Question, Span, DIRECTIONS};
 
     fn log() -> Vec<u8> {
         reference::log::write(&reference::random::sound_records(&mut Random::new(5), 60))
@@ -247,7 +249,10 @@ mod tests {
         for direction in DIRECTIONS.into_iter().cycle().take(60) {
             let entity = random.pick(&reference::log::births(&records).collect::<Vec<_>>()).saturating_add(random.below(2) as u32);
             let time = random.pick(&records).time().saturating_sub(random.below(2));
-            answers.push(crate::calls::answer(&Question { direction, entity, time }, &log).unwrap());
+            let until = time.saturating_add(random.below(40));
+            for asked in [Asked::One(Question { direction, entity, time }), Asked::All(Span { entity, from: time, until })] {
+                answers.push(crate::calls::answer(&asked, &log).unwrap());
+            }
         }
         answers
     }

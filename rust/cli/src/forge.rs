@@ -2,9 +2,10 @@
 
 use reference::collision::{self, Collision};
 use reference::hex::to_hex;
-use viewer::{Question, Refusal};
+use viewer::Refusal;
 
 use crate::args;
+use crate::asked::Asked;
 use crate::calls;
 use crate::command::Words;
 use crate::failure::{Done, Failure};
@@ -21,11 +22,11 @@ enum Outcome {
 }
 
 pub fn run(words: &Words) -> Done {
-    let question = words.question(1).map_err(in_order)?;
-    let (name, answer) = (words.plain(0), words.plain(4));
+    let asked = words.asked(1).map_err(in_order)?;
+    let (name, answer) = (words.plain(0), words.last());
     args::one_input(answer, name)?;
     let (answer, log) = (files::read(answer)?, files::read_log(name)?);
-    match outcome(&question, &log, &answer).map_err(|refusal| rows::refused_log(name, &refusal))? {
+    match outcome(&asked, &log, &answer).map_err(|refusal| rows::refused_log(name, &refusal))? {
         Outcome::Refused(refusal) => Err(Failure::Answer(format!("not passed: {refusal}"))),
         Outcome::Defined => Err(Failure::Answer("not false: this is the true answer".into())),
         Outcome::Passed(collision) => files::write("-", passed(collision.as_ref())?.as_bytes()),
@@ -35,28 +36,27 @@ pub fn run(words: &Words) -> Done {
 /// The answer stood first once; whoever puts it there is told the order.
 fn in_order(failure: Failure) -> Failure {
     match failure {
-        Failure::Use(text) => Failure::Use(format!("{text}\nthe words are LOG DIRECTION ENTITY TIME ANSWER, in this order")),
+        Failure::Use(text) => Failure::Use(format!("{text}\nthe words are LOG DIRECTION ENTITY TIME [UNTIL] ANSWER, in this order")),
         other => other,
     }
 }
 
 /// Checks an answer against a log's commitment; refuses the log if it is not sound.
-fn outcome(question: &Question, log: &[u8], answer: &[u8]) -> Result<Outcome, Refusal> {
+fn outcome(asked: &Asked, log: &[u8], answer: &[u8]) -> Result<Outcome, Refusal> {
     let commitment = calls::commitment(log)?;
-    if let Err(refusal) = calls::checked(question, &commitment, answer) {
+    if let Err(refusal) = calls::checked(asked, &commitment, answer) {
         return Ok(Outcome::Refused(refusal));
     }
-    if calls::answer(question, log)? == answer {
+    if calls::answer(asked, log)? == answer {
         return Ok(Outcome::Defined);
     }
-    Ok(Outcome::Passed(collision_of(question, log, answer)))
+    Ok(Outcome::Passed(collision_of(asked, log, answer)))
 }
 
 /// The two strings, looked for among those that the Rust version hashes.
-fn collision_of(question: &Question, log: &[u8], answer: &[u8]) -> Option<Collision> {
+fn collision_of(asked: &Asked, log: &[u8], answer: &[u8]) -> Option<Collision> {
     let records = reference::log::read(log).ok()?;
-    let Question { direction, entity, time } = *question;
-    collision::find(calls::hash, &records, &reference::Question { direction: direction.number(), entity, time }, answer)
+    collision::find(calls::hash, &records, &asked.for_reference(), answer)
 }
 
 /// What is said of a false answer that passed. Whoever reads it can hash both strings anew.

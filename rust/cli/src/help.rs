@@ -7,8 +7,9 @@ use crate::failure::Failure;
 const WORDS: &str = "\
 LOG          a log, as bytes (see 'log' for its text form)
 DIRECTION    only, backward or forward, of the last version at or before TIME; only-after, backward-after or forward-after, of the first
-             at or after it (or 0 to 5)
+             at or after it; between, of all versions from TIME to UNTIL, both included (or 0 to 6)
 ENTITY, TIME in decimal: a version of ENTITY is sought, by TIME as DIRECTION says
+UNTIL        in decimal, after between and no other DIRECTION: the later time
 COMMITMENT   64 hex digits, or a file that holds them or the 32 bytes themselves
 ANSWER       an answer, as bytes
 A file may be '-': standard input, or standard output after -o and --svg.

@@ -1,6 +1,6 @@
 //! The checked records of a trace, and their text.
 
-use viewer::{Checked, Direction, Edge, Question, Record, Relation, Verdict, Way};
+use viewer::{Direction, Edge, Record, Way};
 
 /// A record's version in words.
 pub fn name(record: &Record) -> String {
@@ -15,11 +15,6 @@ pub struct History {
 }
 
 impl History {
-    /// The history that an accepted answer shows.
-    pub fn of(question: &Question, checked: &Checked) -> History {
-        History::new(question.direction, checked.records.clone().collect())
-    }
-
     pub fn new(direction: Direction, records: Vec<Record>) -> History {
         let found = match direction.way() {
             Some(Way::Forward) => 0,
@@ -54,37 +49,9 @@ impl History {
     }
 }
 
-/// A question in words.
-pub fn asked(question: &Question) -> String {
-    let relation = match question.direction.relation() {
-        Relation::AtOrBefore => "at",
-        Relation::AtOrAfter => "at or after",
-    };
-    let part = match question.direction.way() {
-        None => "version only",
-        Some(Way::Backward) => "backward",
-        Some(Way::Forward) => "forward",
-    };
-    format!("{} {relation} {}, {part}", question.entity, question.time)
-}
-
-/// A verdict in words.
-pub fn verdict(question: &Question, verdict: &Verdict) -> String {
-    let entity = question.entity;
-    match verdict {
-        Verdict::NoEntity => "no entity".to_string(),
-        Verdict::NotYet { first } => format!("not yet: the first version of {entity} is at {first}"),
-        Verdict::NoneSoLate { last } => format!("none so late: the last version of {entity} is at {last}"),
-        Verdict::Found { time, count: 0 } => format!("found {entity} at {time}"),
-        Verdict::Found { time, count: 1 } => format!("found {entity} at {time}, 1 record"),
-        Verdict::Found { time, count } => format!("found {entity} at {time}, {count} records"),
-    }
-}
-
 #[cfg(test)]
 mod tests {
     use super::*;
-    use viewer::DIRECTIONS;
 
     #[test]
     fn forward_the_first_is_found() {
@@ -122,24 +89,6 @@ mod tests {
              1: 2 at 20, birth\n\
              2: 2 at 30, temporal edge from 2 at 20, dependency edge of kind 7 from 1 at 10, found\n"
         );
-    }
-
-    #[test]
-    fn questions_and_verdicts_have_words() {
-        let words = DIRECTIONS.map(|direction| asked(&Question { direction, entity: 2, time: 21 }));
-        assert_eq!(words[..3], ["2 at 21, version only", "2 at 21, backward", "2 at 21, forward"]);
-        assert_eq!(words[3..], ["2 at or after 21, version only", "2 at or after 21, backward", "2 at or after 21, forward"]);
-        let question = Question { direction: Direction::Forward, entity: 2, time: 21 };
-        for (given, words) in [
-            (Verdict::NoEntity, "no entity"),
-            (Verdict::NotYet { first: 20 }, "not yet: the first version of 2 is at 20"),
-            (Verdict::NoneSoLate { last: 30 }, "none so late: the last version of 2 is at 30"),
-            (Verdict::Found { time: 30, count: 0 }, "found 2 at 30"),
-            (Verdict::Found { time: 30, count: 1 }, "found 2 at 30, 1 record"),
-            (Verdict::Found { time: 30, count: 2 }, "found 2 at 30, 2 records"),
-        ] {
-            assert_eq!(verdict(&question, &given), words);
-        }
     }
 
     #[test]

@@ -7,8 +7,7 @@ use std::sync::mpsc::{self, Receiver, RecvTimeoutError};
 use std::thread;
 use std::time::{Duration, Instant};
 
-use viewer::Question;
-
+use crate::asked::Asked;
 use crate::calls;
 use crate::failure::Failure;
 
@@ -21,7 +20,7 @@ const GRACE: Duration = Duration::from_millis(100);
 pub struct Host {
     /// What it is called in a table.
     pub name: String,
-    /// The program and its first words; the question's three follow them.
+    /// The program and its first words; the question's follow them.
     pub words: Vec<String>,
     /// How long it may take for an answer.
     pub limit: Duration,
@@ -30,10 +29,10 @@ pub struct Host {
 impl Host {
     /// The answer's bytes, or why there are none. That the program cannot be started is an error of use. If `quiet`, what it writes to
     /// standard error is not shown.
-    pub fn ask(&self, question: &Question, log: &[u8], quiet: bool) -> Result<Result<Vec<u8>, String>, Failure> {
+    pub fn ask(&self, asked: &Asked, log: &[u8], quiet: bool) -> Result<Result<Vec<u8>, String>, Failure> {
         let mut child = Command::new(&self.words[0])
             .args(&self.words[1..])
-            .args([question.direction.number().to_string(), question.entity.to_string(), question.time.to_string()])
+            .args(asked.words())
             .stdin(Stdio::piped())
             .stdout(Stdio::piped())
             .stderr(if quiet { Stdio::null() } else { Stdio::inherit() })

@@ -2,6 +2,7 @@
 #![forbid(unsafe_code)]
 
 mod args;
+mod asked;
 mod calls;
 mod command;
 mod commands;
@@ -24,6 +25,7 @@ mod names;
 mod page;
 mod report;
 mod rows;
+mod said;
 mod sample;
 mod seed;
 mod svg;

@@ -6,14 +6,13 @@ use std::path::Path;
 use std::time::Instant;
 
 use reference::random::Random;
-use viewer::{Question, DIRECTIONS};
 
+use crate::asked::Asked;
 use crate::calls;
 use crate::command::Words;
 use crate::difference;
 use crate::failure::{Done, Failure};
 use crate::files;
-use crate::history;
 use crate::host::Host;
 use crate::hosts::{self, Hosts};
 use crate::json;
@@ -29,7 +28,7 @@ const TIMES: usize = 4;
 /// The first answer of a program that was not accepted.
 struct Fault {
     log: Vec<u8>,
-    question: Question,
+    asked: Asked,
     /// None if there was no answer.
     answer: Option<Vec<u8>>,
     said: String,
@@ -141,21 +140,20 @@ fn round(host: &Host, random: &mut Random, size: usize, quiet: bool, first: &mut
     let log = textlog::to_bytes(sample.text.as_bytes()).map_err(Failure::Use)?;
     let commitment = calls::commitment(&log).map_err(|refusal| Failure::Log(refusal.to_string()))?;
     let mut tally = Tally::default();
-    for direction in DIRECTIONS.into_iter().cycle().take(TIMES * DIRECTIONS.len()) {
-        let question = sample::question(random, &sample, direction);
+    for asked in (0..TIMES).flat_map(|_| sample::questions(random, &sample)) {
         let start = Instant::now();
-        let answer = host.ask(&question, &log, quiet || first.is_some())?;
+        let answer = host.ask(&asked, &log, quiet || first.is_some())?;
         let time = start.elapsed();
         let marked = match answer {
             Err(reason) => Marked::Failed(reason),
-            Ok(answer) => match calls::checked(&question, &commitment, &answer) {
+            Ok(answer) => match calls::checked(&asked, &commitment, &answer) {
                 Ok(_) => Marked::Accepted,
                 Err(refusal) => Marked::Refused(answer, refusal),
             },
         };
         tally.add(&marked, time);
         if first.is_none() {
-            *first = Fault::of(marked, question, &log, size);
+            *first = Fault::of(marked, asked, &log, size);
         }
     }
     Ok(tally)
@@ -163,30 +161,29 @@ fn round(host: &Host, random: &mut Random, size: usize, quiet: bool, first: &mut
 
 impl Fault {
     /// None if the answer was accepted.
-    fn of(marked: Marked, question: Question, log: &[u8], size: usize) -> Option<Fault> {
+    fn of(marked: Marked, asked: Asked, log: &[u8], size: usize) -> Option<Fault> {
         let (reason, answer) = match marked {
             Marked::Accepted => return None,
             Marked::Failed(reason) => (reason, None),
             Marked::Refused(answer, refusal) => {
-                let truth = calls::answer(&question, log).ok()?;
+                let truth = calls::answer(&asked, log).ok()?;
                 let difference = difference::said(&answer, &truth)?;
                 (format!("{}\nfirst difference from the true answer: {difference}", refusal), Some(answer))
             }
         };
-        let said = format!("first not accepted: {}, log of size {size}: {reason}", history::asked(&question));
-        Some(Fault { log: log.to_vec(), question, answer, said })
+        let said = format!("first not accepted: {asked}, log of size {size}: {reason}");
+        Some(Fault { log: log.to_vec(), asked, answer, said })
     }
 
-    /// Writes the log, the question in the program's three words, the answer if there is one, and what is said of it.
+    /// Writes the log, the question in the program's words, the answer if there is one, and what is said of it.
     fn keep(&self, folder: &Path) -> Done {
         self.kept(folder).map_err(|reason| Failure::Use(format!("{}: {reason}", folder.display())))
     }
 
     fn kept(&self, folder: &Path) -> io::Result<()> {
-        let Question { direction, entity, time } = self.question;
         fs::create_dir_all(folder)?;
         fs::write(folder.join("log"), &self.log)?;
-        fs::write(folder.join("question"), format!("{} {entity} {time}\n", direction.number()))?;
+        fs::write(folder.join("question"), format!("{}\n", self.asked.words().join(" ")))?;
         fs::write(folder.join("said"), format!("{}\n", self.said))?;
         let answer = folder.join("answer");
         match &self.answer {

@@ -2,7 +2,8 @@
 
 use viewer::{Question, Record, Way};
 
-use crate::history::{self, History};
+use crate::asked::Asked;
+use crate::history::History;
 use crate::json;
 use crate::names::Names;
 
@@ -16,7 +17,7 @@ pub struct Head<'a> {
 }
 
 pub fn page(head: &Head, history: &History, names: Option<&Names>) -> String {
-    let title = format!("{}: {}", history::asked(head.question), head.verdict);
+    let title = format!("{}: {}", Asked::One(*head.question), head.verdict);
     PAGE.replacen("@TITLE@", &title, 1).replacen("@DATA@", &data(head, history, names), 1)
 }
 
@@ -25,7 +26,7 @@ fn data(head: &Head, history: &History, names: Option<&Names>) -> String {
     let column = |of: fn(&Record) -> String| json::list(history.records.iter().map(of));
     let way = if head.question.direction.way() == Some(Way::Forward) { "forward" } else { "backward" };
     let mut fields = vec![
-        ("asked", json::text(&history::asked(head.question))),
+        ("asked", json::text(&Asked::One(*head.question).to_string())),
         ("verdict", json::text(head.verdict)),
         ("commitment", json::text(head.commitment)),
         ("way", json::text(way)),

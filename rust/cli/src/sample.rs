@@ -1,7 +1,9 @@
 //! Sound logs and questions about them, the same for the same seed.
 
 use reference::random::Random;
-use viewer::{Direction, Question};
+use viewer::{Direction, Question, Span, DIRECTIONS};
+
+use crate::asked::Asked;
 
 /// A sound log in its text form, with what questions about it are made from.
 pub struct Sample {
@@ -59,14 +61,36 @@ pub fn question(random: &mut Random, sample: &Sample, direction: Direction) -> Q
     let (own, time) = random.pick(&sample.versions);
     let entity = if random.below(2) == 0 { own } else { random.pick(&sample.entities) };
     let entity = entity.saturating_add(u32::from(random.below(8) == 0));
-    Question { direction, entity, time: time.saturating_add(random.below(3)).saturating_sub(1) }
+    Question { direction, entity, time: beside(random, time) }
+}
+
+/// A span between the times of two versions of an entity, each at that time or just beside it; once in eight of an entity near that one.
+pub fn span(random: &mut Random, sample: &Sample) -> Span {
+    let (own, _) = random.pick(&sample.versions);
+    let times: Vec<u64> = sample.versions.iter().filter(|version| version.0 == own).map(|version| version.1).collect();
+    let ends = [random.pick(&times), random.pick(&times)].map(|time| beside(random, time));
+    let entity = own.saturating_add(u32::from(random.below(8) == 0));
+    Span { entity, from: ends[0].min(ends[1]), until: ends[0].max(ends[1]) }
+}
+
+/// A question of each direction.
+pub fn questions(random: &mut Random, sample: &Sample) -> Vec<Asked> {
+    let mut all: Vec<Asked> = DIRECTIONS.iter().map(|direction| Asked::One(question(random, sample, *direction))).collect();
+    all.push(Asked::All(span(random, sample)));
+    all
+}
+
+/// A time, or the one before it or after it.
+fn beside(random: &mut Random, time: u64) -> u64 {
+    time.saturating_add(random.below(3)).saturating_sub(1)
 }
 
 #[cfg(test)]
 mod tests {
     use super::*;
+    use crate::said::Said;
     use crate::textlog;
-    use viewer::{Relation, DIRECTIONS};
+    use viewer::{Relation, Verdict};
 
     #[test]
     fn logs_are_sound_and_have_the_records_asked_for() {
@@ -114,13 +138,13 @@ mod tests {
         let commitment = crate::calls::commitment(&log).unwrap();
         let mut met = [0; 4];
         for _ in 0..300 {
-            let question = question(&mut random, &sample, direction);
-            let answer = crate::calls::answer(&question, &log).unwrap();
-            met[match crate::calls::checked(&question, &commitment, &answer).unwrap().verdict {
-                viewer::Verdict::NoEntity => 0,
-                viewer::Verdict::NotYet { .. } => 1,
-                viewer::Verdict::NoneSoLate { .. } => 2,
-                viewer::Verdict::Found { .. } => 3,
+            let asked = Asked::One(question(&mut random, &sample, direction));
+            let answer = crate::calls::answer(&asked, &log).unwrap();
+            met[match crate::calls::checked(&asked, &commitment, &answer).unwrap() {
+                Said::One(Verdict::NotYet { .. }, _) => 1,
+                Said::One(Verdict::NoneSoLate { .. }, _) => 2,
+                Said::One(Verdict::Found { .. }, _) => 3,
+                _ => 0,
             }] += 1;
         }
         met
@@ -135,6 +159,23 @@ mod tests {
                 Relation::AtOrAfter => (none_so_late, not_yet),
             };
             assert!([no_entity, stop, found].iter().all(|times| *times > 10) && other == 0, "{direction}");
+        }
+    }
+
+    /// Empty lists, and lists of one version, two and more; also of an entity that has far more.
+    #[test]
+    fn lists_of_every_length_are_asked_for() {
+        for records in [30, 4096] {
+            let mut random = Random::new(1);
+            let sample = log(&mut random, records);
+            let log = textlog::to_bytes(sample.text.as_bytes()).unwrap();
+            let host = reference::host::Host::new(&reference::log::read(&log).unwrap());
+            let mut met = [0; 5];
+            for _ in 0..300 {
+                let asked = Asked::All(span(&mut random, &sample)).for_reference();
+                met[host.versions_between(&asked).map_or(4, |versions| versions.len().min(3))] += 1;
+            }
+            assert!(met.iter().all(|times| *times > 10), "{records}: {met:?}");
         }
     }
 }

@@ -12,7 +12,7 @@ fn lines(ran: &Ran) -> (Vec<String>, &str) {
     let last = lines.pop().expect("a line");
     let short = |line: &&str| {
         let mut words: Vec<&str> = line.split_whitespace().collect();
-        if words[1] == "192" {
+        if words[1] == "224" {
             words.remove(4);
         }
         words.join(" ")
@@ -35,7 +35,7 @@ fn a_folder_stands_for_the_programs_in_it() {
     let path = |name: &str| format!("{folder}{name}");
     let (all, last) = lines(&ran);
     assert_eq!((ran.status, last, ran.err.as_str()), (1, "1 of 5 have full marks", ""));
-    assert_eq!(all[..3], [path("a 192 192 0 none"), path("b 192 0 192 none"), path("c/host 192 64 0 128 by row 16")]);
+    assert_eq!(all[..3], [path("a 224 224 0 none"), path("b 224 0 224 none"), path("c/host 224 64 0 160 by row 16")]);
     assert!(all[3].starts_with(&path("d/host not started: ")) && all[3].contains("No such file"), "{}", all[3]);
     assert!(all[4].starts_with(&path("notes not started: ")) && all[4].contains("Permission denied"), "{}", all[4]);
 }
@@ -47,7 +47,7 @@ fn all_have_the_same_questions() {
     let hosts = ["one", "two"].map(|name| folder.host(name, &noting(name)));
     let ran = run(&["mark", &hosts[0], &hosts[1]]);
     assert_eq!((ran.status, lines(&ran).1), (0, "2 of 2 have full marks"), "{}", ran.text());
-    assert_eq!(folder.read("one.asked").iter().filter(|byte| **byte == b'\n').count(), 2 * 192);
+    assert_eq!(folder.read("one.asked").iter().filter(|byte| **byte == b'\n').count(), 2 * 224);
     assert_eq!(folder.read("one.asked"), folder.read("two.asked"));
 }
 
@@ -62,7 +62,7 @@ fn the_words_after_two_dashes_start_each() {
     }
     let ran = run(&["mark", &hosts[0], &hosts[1], &folder.path("three"), "--", "sh", "-u"]);
     assert_eq!((ran.status, lines(&ran).1), (1, "2 of 3 have full marks"), "{}", ran.text());
-    assert_eq!(lines(&ran).0[0], format!("{} 192 192 0 none", hosts[0]));
+    assert_eq!(lines(&ran).0[0], format!("{} 224 224 0 none", hosts[0]));
     assert!(lines(&ran).0[2].ends_with("three: there is no such file"), "{}", ran.text());
 }
 

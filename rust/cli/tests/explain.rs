@@ -47,11 +47,25 @@ fn answers_that_end_early_are_read() {
         ((4, 2, 31), "RPG"),
         ((3, 2, 21), "RPGNL"),
     ] {
-        let text = String::from_utf8(explained(&k.answer(question.0, question.1, question.2)).good()).unwrap();
-        let meanings = text.lines().filter_map(|line| line.split_whitespace().nth(2));
-        let letters: String = meanings.filter(|meaning| meaning.len() == 1).collect();
-        assert_eq!(letters, strings);
+        assert_eq!(letters(&k.answer(question.0, question.1, question.2)), strings);
     }
+}
+
+/// The letters of the strings that are read.
+fn letters(answer: &[u8]) -> String {
+    let text = String::from_utf8(explained(answer).good()).unwrap();
+    let meanings = text.lines().filter_map(|line| line.split_whitespace().nth(2));
+    meanings.filter(|meaning| meaning.len() == 1).collect()
+}
+
+#[test]
+fn strings_of_a_list_follow_each_other() {
+    let k = Logged::k();
+    for (entity, from, until, strings) in [(1, 10, 40, "RPGNLL"), (2, 30, 99, "RPGNL"), (2, 21, 29, "RPGN"), (2, 31, 99, "RPG"), (3, 0, 9, "R")] {
+        assert_eq!(letters(&k.between(entity, from, until)), strings);
+    }
+    let text = String::from_utf8(explained(&k.between(1, 10, 40)).good()).unwrap();
+    assert!(text.ends_with(&block("between")), "{text}");
 }
 
 #[test]
@@ -66,7 +80,7 @@ fn what_cannot_be_read_is_said_last() {
         (good[..0].to_vec(), 0, "byte 0: the answer ends, and R is due"),
         (changed(65, b'N'), 7, "byte 65: 4e is not a letter due, which is P or G"),
         (good[..70].to_vec(), 8, "byte 66: the answer ends inside P: left: least key, of which 4 of 8 bytes are there"),
-        (good[..316].to_vec(), 26, "byte 316: the answer ends, and N or L is due"),
+        (changed(316, b'B'), 26, "byte 316: 42 is not a letter due, which is N or L"),
         (changed(397, 9), 45, "byte 446: the answer ends, and E or V is due"),
         (changed(397, 2), 39, "byte 424: 22 bytes after the end"),
         (changed(411, b'S'), 36, "byte 411: 53 is not a letter due, which is E or V"),
@@ -83,7 +97,7 @@ fn what_cannot_be_read_is_said_last() {
 fn each_place_of_a_forward_answer_has_its_letters() {
     let k = Logged::k();
     let (good, proof) = (k.answer(2, 2, 20), k.answer(0, 2, 20).len());
-    for (place, byte, due) in [(0, b'S', "B or F"), (5, b'T', "S"), (18, b'S', "T or D or V"), (35, b'E', "T or D or V")] {
+    for (place, byte, due) in [(0, b'S', "B or F or N or L"), (5, b'T', "S"), (18, b'S', "T or D or V"), (35, b'E', "T or D or V")] {
         let mut answer = good.clone();
         answer[proof + place] = byte;
         let ran = explained(&answer);

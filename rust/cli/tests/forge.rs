@@ -6,15 +6,15 @@ use common::*;
 use reference::random::Random;
 
 /// Log K in a file, and what is said of an answer handed in for a question.
-fn forge_for(name: &str, question: [&str; 3], answer: &[u8]) -> Ran {
+fn forge_for(name: &str, question: &[&str], answer: &[u8]) -> Ran {
     let folder = Folder::new(&format!("forge_{name}"));
     let log = folder.file("log", &Logged::k().log);
-    run(&[&["mark", "--forge", &log][..], &question, &[&folder.file("answer", answer)]].concat())
+    run(&[&["mark", "--forge", &log][..], question, &[&folder.file("answer", answer)]].concat())
 }
 
 /// The same for 2 at 35, backward.
 fn forge(name: &str, answer: &[u8]) -> Ran {
-    forge_for(name, ["backward", "2", "35"], answer)
+    forge_for(name, &["backward", "2", "35"], answer)
 }
 
 fn assert_not_passed(ran: &Ran, said: &str) {
@@ -46,13 +46,35 @@ fn all_six_directions_are_taken() {
     for direction in 0..6 {
         let word = direction.to_string();
         let truth = Logged::k().answer(direction, 2, 25);
-        let said = |name: &str, answer: &[u8]| forge_for(&format!("{name}_{direction}"), [&word, "2", "25"], answer);
+        let said = |name: &str, answer: &[u8]| forge_for(&format!("{name}_{direction}"), &[&word, "2", "25"], answer);
         assert_not_passed(&said("six_true", &truth), "not false: this is the true answer");
         let mut altered = truth;
         *altered.last_mut().unwrap() ^= 1;
         let ran = said("six_altered", &altered);
         assert!(ran.status == 1 && ran.text().starts_with("not passed: refused "), "{direction}: {ran:?}");
     }
+}
+
+/// Direction 6: the true answer, a version left out at either end, the two exchanged, one twice, and the answer of a longer span.
+#[test]
+fn lists_are_taken() {
+    let k = Logged::k();
+    let truth = k.between(1, 10, 40);
+    let (top, first, second) = (&truth[..316], &truth[316..393], &truth[393..]);
+    let ended = "refused 15 at 393: answer ends inside or before a string, trace header or record";
+    let other = |place: usize| format!("refused 17 at {place}: H of a proof string not the digest due");
+    for (answer, said) in [
+        ([top, first].concat(), ended.to_string()),
+        ([top, second].concat(), other(316)),
+        ([top, second, first].concat(), other(316)),
+        ([top, first, first].concat(), other(393)),
+        ([top, first, second, second].concat(), "refused 18 at 470: bytes after the end".to_string()),
+    ] {
+        assert_not_passed(&forge_for("list", &["between", "1", "10", "40"], &answer), &format!("not passed: {said}"));
+    }
+    assert_not_passed(&forge_for("list", &["6", "1", "10", "40"], &truth), "not false: this is the true answer");
+    let said = "not passed: refused 18 at 393: bytes after the end";
+    assert_not_passed(&forge_for("list", &["6", "1", "10", "39"], &truth), said);
 }
 
 /// The version on the other side of the time, and the end that the other relation has.
@@ -67,7 +89,7 @@ fn the_other_relation_does_not_pass() {
     ] {
         let word = |asked: (u8, u32, u64)| [asked.0.to_string(), asked.1.to_string(), asked.2.to_string()];
         let [direction, entity, time] = word(asked);
-        let ran = forge_for("relation", [&direction, &entity, &time], &k.answer(other.0, other.1, other.2));
+        let ran = forge_for("relation", &[&direction, &entity, &time], &k.answer(other.0, other.1, other.2));
         assert_not_passed(&ran, &format!("not passed: {said}"));
     }
 }
@@ -102,7 +124,7 @@ fn the_log_has_to_be_there_and_sound() {
 fn another_order_of_the_words_is_told_the_right_one() {
     let ran = run(&["mark", "--forge", "answer", "log", "only", "1", "10"]);
     assert_eq!((ran.status, ran.text()), (2, ""));
-    assert!(ran.err.ends_with("the words are LOG DIRECTION ENTITY TIME ANSWER, in this order\n"), "{}", ran.err);
+    assert!(ran.err.ends_with("the words are LOG DIRECTION ENTITY TIME [UNTIL] ANSWER, in this order\n"), "{}", ran.err);
 }
 
 #[test]

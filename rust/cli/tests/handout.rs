@@ -20,10 +20,15 @@ fn block(name: &str) -> Vec<&'static str> {
 
 /// The bytes of a table, whose lines begin with their place.
 fn table(name: &str) -> Vec<u8> {
+    table_from(name, 0)
+}
+
+/// The same of a table that begins at a place.
+fn table_from(name: &str, start: usize) -> Vec<u8> {
     let mut all = Vec::new();
     for line in block(name) {
         let words: Vec<&str> = line.split_whitespace().collect();
-        assert_eq!(words[0], all.len().to_string(), "{line}");
+        assert_eq!(words[0], (start + all.len()).to_string(), "{line}");
         assert!(words.len() > 2, "{line} says nothing");
         all.extend(from_hex(words[1]));
     }
@@ -49,21 +54,40 @@ fn looking_ahead() {
     assert_eq!(k.answer(4, 2, 21), answer);
 }
 
-/// Of each question the answer's length, and what the check says.
+/// The strings below the P that is printed above them.
 #[test]
-fn more_questions() {
+fn between_two_times() {
+    let k = Logged::k();
+    assert_eq!([&table("answer")[..162], &table_from("between", 162)].concat(), k.between(1, 10, 40));
+}
+
+/// Of each question in a block, which has that many words, the answer's length and what the check says; gives the directions.
+fn questions(name: &str, words_of_one: usize) -> Vec<&'static str> {
     let k = Logged::k();
     let mut directions = Vec::new();
-    for line in block("questions") {
+    for line in block(name) {
         let mut words = line.split_whitespace();
-        let question: Vec<&str> = words.by_ref().take(3).collect();
+        let question: Vec<&str> = words.by_ref().take(words_of_one).collect();
         let answer = run_on(&k.log, &[&["answer", "-"], &question[..]].concat()).good();
         assert_eq!(words.next(), Some(answer.len().to_string().as_str()), "{line}");
         let said = String::from_utf8(run_on(&answer, &[&["check", &k.hex()], &question[..], &["-"]].concat()).good()).unwrap();
-        assert!(said.ends_with(&format!(": {}\n", words.collect::<Vec<_>>().join(" "))), "{line}: {said}");
+        // a list has a line a version
+        let said = said.trim_end().replacen('\n', ": ", 1).replace('\n', ", ");
+        assert!(said.ends_with(&format!(": {}", words.collect::<Vec<_>>().join(" "))), "{line}: {said}");
         directions.push(question[0]);
     }
+    directions
+}
+
+#[test]
+fn more_questions() {
+    let directions = questions("questions", 3);
     assert!(["3", "4", "5"].iter().all(|direction| directions.contains(direction)), "{directions:?}");
+}
+
+#[test]
+fn more_spans() {
+    assert!(questions("spans", 4).iter().all(|direction| *direction == "6"));
 }
 
 #[test]

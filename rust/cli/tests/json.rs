@@ -31,6 +31,28 @@ fn a_check_and_a_history() {
     assert_eq!((refused.status, refused.text()), (1, "{\"accepted\":false,\"number\":16,\"position\":0,\"cause\":\"letter not one due\"}\n"));
 }
 
+/// The list is the verdict, so `check` and `show` say the same.
+#[test]
+fn a_list() {
+    let k = Logged::k();
+    for (entity, from, until, said) in [
+        (1, 10, 40, r#""listed","count":2,"versions":[{"entity":1,"time":"10"},{"entity":1,"time":"40"}]"#),
+        (2, 21, 29, r#""listed","count":0,"versions":[]"#),
+        (3, 0, 9, r#""no entity""#),
+    ] {
+        let words = [entity.to_string(), from.to_string(), until.to_string()];
+        let asked = format!(r#""direction":"between","entity":{entity},"time":"{from}","until":"{until}""#);
+        let expected = format!("{{\"accepted\":true,\"commitment\":\"{}\",{asked},\"verdict\":{said}}}\n", k.hex());
+        for (command, direction) in [("check", "between"), ("show", "6")] {
+            let ran = run_on(&k.between(entity, from, until), &[command, &k.hex(), direction, &words[0], &words[1], &words[2], "-", "--json"]);
+            assert_eq!(text(ran), expected);
+        }
+    }
+    let refused = run_on(&k.between(1, 10, 39), &["check", &k.hex(), "between", "1", "10", "40", "-", "--json"]);
+    assert_eq!(refused.status, 1);
+    assert!(refused.text().starts_with(r#"{"accepted":false,"number":15,"position":393,"#), "{}", refused.text());
+}
+
 #[test]
 fn a_listing() {
     let versions = text(run_on(&Logged::k().log, &["list", "-", "--json"]));
@@ -45,8 +67,8 @@ fn a_mark() {
     let good = folder.host("good", "answer \"$@\"");
     let bad = folder.host("bad", "printf x");
     let ran = run(&["mark", &good, "--seed", "5", "--json"]);
-    assert!(text(ran).starts_with(&format!("{{\"seed\":\"5\",\"hosts\":[{{\"host\":\"{good}\",\"asked\":192,\"accepted\":192,\"no_answer\":0,")));
+    assert!(text(ran).starts_with(&format!("{{\"seed\":\"5\",\"hosts\":[{{\"host\":\"{good}\",\"asked\":224,\"accepted\":224,\"no_answer\":0,")));
     let ran = run(&["mark", &good, &bad, "--seed", "5", "--json"]);
     assert_eq!(ran.status, 1);
-    assert!(ran.text().contains("\"accepted\":0,\"no_answer\":0,") && ran.text().contains("\"refused\":{\"16\":192},\"said\":\"first not accepted: "), "{}", ran.text());
+    assert!(ran.text().contains("\"accepted\":0,\"no_answer\":0,") && ran.text().contains("\"refused\":{\"16\":224},\"said\":\"first not accepted: "), "{}", ran.text());
 }

@@ -18,6 +18,8 @@ const FORWARD: &str = "found 2 at 20, 3 records\n\
     1: 2 at 30, temporal edge from 2 at 20\n\
     2: 1 at 40, dependency edge of kind 8 from 2 at 30\n";
 
+const LIST: &str = "listed 2 versions\n1 at 10\n1 at 40\n";
+
 #[test]
 fn log_and_back() {
     let folder = Folder::new("log_and_back");
@@ -141,6 +143,38 @@ fn show() {
     assert_eq!(show("forward-after", "2", "31", &k.answer(5, 2, 31)), b"none so late: the last version of 2 is at 30\n");
 }
 
+/// Spans: their words, the answer's length, and what `check` says, with a line a version.
+#[test]
+fn between() {
+    let folder = Folder::new("between");
+    let k = Logged::k();
+    let log = folder.file("k", &k.log);
+    for (entity, from, until, length, verdict, versions) in [
+        (1, 10, 40, 470, "listed 2 versions", "1 at 10\n1 at 40\n"),
+        (1, 0, u64::MAX, 470, "listed 2 versions", "1 at 10\n1 at 40\n"),
+        (2, 20, 29, 393, "listed 1 version", "2 at 20\n"),
+        (2, 30, 30, 393, "listed 1 version", "2 at 30\n"),
+        (2, 21, 29, 316, "listed 0 versions", ""),
+        (2, 31, 99, 219, "listed 0 versions", ""),
+        (3, 0, 99, 65, "no entity", ""),
+    ] {
+        let words = [entity.to_string(), from.to_string(), until.to_string()];
+        let words = [&words[0], &words[1], &words[2]].map(String::as_str);
+        let accepted = format!("accepted: {entity} from {from} to {until}, all versions: {verdict}\n{versions}");
+        for direction in ["between", "6"] {
+            let question = [&[direction], &words[..]].concat();
+            let answer = run(&[&["answer", &log], &question[..]].concat()).good();
+            assert_eq!((answer.len(), &answer), (length, &k.between(entity, from, until)));
+            let file = folder.file("a", &answer);
+            let of = |command: &str| String::from_utf8(run(&[&[command, &k.hex()], &question[..], &[&file]].concat()).good()).unwrap();
+            assert_eq!(of("check"), accepted);
+            assert_eq!(of("show"), format!("{verdict}\n{versions}"));
+            let told = String::from_utf8(run(&[&["ask", &log], &question[..]].concat()).good()).unwrap();
+            assert_eq!(told, format!("commitment {}\n{accepted}", k.hex()));
+        }
+    }
+}
+
 #[test]
 fn demo() {
     let k = Logged::k();
@@ -149,7 +183,7 @@ fn demo() {
     let refused = "refused 24 at 424: its path digest differs from L\n";
     let mut rest = told.as_str();
     let late = "none so late: the last version of 2 is at 30\n";
-    for text in [TEXT, LISTING, &k.hex(), BACKWARD, "found 1 at 10, 3 records\n", AHEAD, late, refused] {
+    for text in [TEXT, LISTING, &k.hex(), BACKWARD, "found 1 at 10, 3 records\n", AHEAD, late, LIST, refused] {
         let text = indented(text);
         let place = rest.find(&text).unwrap_or_else(|| panic!("{text} is missing in {rest}"));
         rest = &rest[place + text.len()..];

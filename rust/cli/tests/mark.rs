@@ -54,15 +54,15 @@ fn true_answers_are_all_accepted() {
     assert_eq!((ran.status, ran.err.as_str()), (0, ""));
     let sizes: Vec<String> = table(&ran).iter().map(|line| line[0].clone()).collect();
     assert_eq!(sizes, ["1", "2", "4", "16", "64", "256", "1024", "4096", "all"]);
-    assert!(table(&ran)[..8].iter().all(|line| line[1..] == ["24", "24", "0", "none"]));
-    assert_eq!(all(&ran), "all 192 192 0 none");
+    assert!(table(&ran)[..8].iter().all(|line| line[1..] == ["28", "28", "0", "none"]));
+    assert_eq!(all(&ran), "all 224 224 0 none");
 }
 
 #[test]
 fn a_program_written_from_the_handout_alone_has_full_marks() {
     for seed in ["1", "2", "3"] {
         let ran = run(&["mark", &participant(), "--seed", seed]);
-        assert_eq!((all(&ran).as_str(), ran.err.as_str(), ran.status), ("all 192 192 0 none", "", 0), "seed {seed}: {}", ran.text());
+        assert_eq!((all(&ran).as_str(), ran.err.as_str(), ran.status), ("all 224 224 0 none", "", 0), "seed {seed}: {}", ran.text());
     }
 }
 
@@ -77,13 +77,22 @@ fn its_answers_on_log_k_are_the_proved_ones() {
         let proved = run_on(&log, &[&["answer", "-"], &question[..]].concat()).good();
         assert_eq!(run_with(Command::new(participant()).args(question), &log).good(), proved, "{question:?}");
     }
+    for entity in ["1", "2", "3"] {
+        for (place, from) in times.into_iter().enumerate() {
+            for until in times[place..].iter().step_by(3) {
+                let question = ["6", entity, from, until];
+                let proved = run_on(&log, &[&["answer", "-"], &question[..]].concat()).good();
+                assert_eq!(run_with(Command::new(participant()).args(question), &log).good(), proved, "{question:?}");
+            }
+        }
+    }
 }
 
 #[test]
 fn false_answers_are_counted_by_row() {
     let script = "case $1 in 0 | 3) answer \"$@\" ;; 1 | 4) answer \"$@\"; printf x ;; *) printf x ;; esac";
     let (_, ran) = mark("bad", script, &[]);
-    assert_eq!((ran.status, all(&ran).as_str()), (1, "all 192 64 0 64 by row 16, 64 by row 18"));
+    assert_eq!((ran.status, all(&ran).as_str()), (1, "all 224 64 0 96 by row 16, 64 by row 18"));
     let said: Vec<&str> = ran.text().lines().skip(11).collect();
     let [refused, difference] = said[..] else { panic!("{said:?}") };
     assert!(refused.starts_with("first not accepted: ") && refused.contains(", backward, log of size 1: refused 18 at "), "{refused}");
@@ -112,10 +121,34 @@ fn the_first_answer_that_is_not_accepted_is_kept() {
 /// no entity are right.
 #[test]
 fn a_host_that_does_not_look_ahead_loses_marks() {
-    let (_, ran) = mark("back", "d=$1; shift; answer $((d % 3)) \"$@\"", &["--seed", "1"]);
+    let script = "[ $1 = 6 ] || { d=$1; shift; set -- $((d % 3)) \"$@\"; }; answer \"$@\"";
+    let (_, ran) = mark("back", script, &["--seed", "1"]);
     let accepted: usize = table(&ran).last().expect("a table")[2].parse().unwrap();
-    assert!(ran.status == 1 && (96..144).contains(&accepted), "{}", ran.text());
+    assert!(ran.status == 1 && (128..176).contains(&accepted), "{}", ran.text());
     assert!(ran.text().lines().any(|line| line.starts_with("first not accepted: ") && line.contains(" at or after ")), "{}", ran.text());
+}
+
+/// A host that takes a span for its first version alone is right where there is no entity, no version so late, or mostly if there is one
+/// version; else the list is too short, or has a version outside it.
+#[test]
+fn a_host_that_lists_the_first_version_alone_loses_marks() {
+    let (_, ran) = mark("first_alone", "[ $1 != 6 ] || set -- 3 $2 $3; answer \"$@\"", &["--seed", "1"]);
+    let accepted: usize = table(&ran).last().expect("a table")[2].parse().unwrap();
+    assert!(ran.status == 1 && (196..216).contains(&accepted), "{}", ran.text());
+    assert!(ran.text().lines().any(|line| line.starts_with("first not accepted: ") && line.contains(", all versions, ")), "{}", ran.text());
+}
+
+/// What is kept of a span has its later time too.
+#[test]
+fn a_span_that_is_not_accepted_is_kept_whole() {
+    let kept = Folder::new("mark_span_kept");
+    let (_, ran) = mark("span_kept", "answer \"$@\"; [ $1 != 6 ] || printf x", &["--keep", &kept.path("")]);
+    assert_eq!((ran.status, all(&ran).as_str()), (1, "all 224 192 0 32 by row 18"));
+    let question = String::from_utf8(kept.read("question")).unwrap();
+    let words: Vec<&str> = question.split_whitespace().collect();
+    let truth = run(&[&["answer", &kept.path("log")], &words[..]].concat()).good();
+    assert_eq!((words.len(), words[0]), (4, "6"));
+    assert_eq!(kept.read("answer"), [&truth[..], b"x"].concat());
 }
 
 #[test]
@@ -123,7 +156,7 @@ fn without_an_answer_none_is_kept() {
     let kept = Folder::new("mark_none_kept");
     kept.file("answer", b"of an earlier mark");
     let (_, ran) = mark("none", "exit 1", &["--keep", &kept.path("")]);
-    assert_eq!((ran.status, all(&ran).as_str()), (1, "all 192 0 192 none"));
+    assert_eq!((ran.status, all(&ran).as_str()), (1, "all 224 0 224 none"));
     assert!(kept.read("log").len() >= 13 && kept.read("question").starts_with(b"0 "));
     assert!(!Path::new(&kept.path("answer")).exists());
     let (_, ran) = mark("no_folder", "exit 1", &["--keep", &kept.path("log")]);
@@ -133,7 +166,7 @@ fn without_an_answer_none_is_kept() {
 #[test]
 fn standard_error_is_shown_up_to_the_first_answer_that_is_not_accepted() {
     let (_, ran) = mark("errors", "echo \"asked $1\" >&2; [ $1 != 2 ] || exit 1; answer \"$@\"", &[]);
-    assert_eq!((all(&ran).as_str(), ran.err.as_str()), ("all 192 160 32 none", "asked 0\nasked 1\nasked 2\n"));
+    assert_eq!((all(&ran).as_str(), ran.err.as_str()), ("all 224 192 32 none", "asked 0\nasked 1\nasked 2\n"));
 }
 
 #[test]
@@ -149,7 +182,7 @@ fn the_seed_settles_the_questions() {
     let script = "echo \"$@\" $(cksum) >>asked.txt";
     let asked = |name: &str, seed: &str| mark(name, script, &["--seed", seed]).0.read("asked.txt");
     let one = asked("seed_a", "1");
-    assert_eq!(one.iter().filter(|byte| **byte == b'\n').count(), 192);
+    assert_eq!(one.iter().filter(|byte| **byte == b'\n').count(), 224);
     assert_eq!(one, asked("seed_b", "1"));
     assert_ne!(one, asked("seed_c", "2"));
 }
@@ -162,15 +195,15 @@ fn replayed_answers_are_accepted_only_with_the_seed_that_they_were_recorded_with
     fs::create_dir(recorded.path("asked")).unwrap();
     let record = format!("{count}; answer \"$@\" | tee '{0}'/$n; : >'{1}'/$n", recorded.path(""), recorded.path("asked"));
     let (_, ran) = mark("record", &record, &[]);
-    assert_eq!(all(&ran), "all 192 192 0 none");
+    assert_eq!(all(&ran), "all 224 224 0 none");
     let replay = format!("n=$(ls | grep -c '^asked'); : >asked$n; cat '{}'/$n", recorded.path(""));
     let (_, again) = mark("replay", &replay, &["--seed", seed(&ran)]);
-    assert_eq!((seed(&again), all(&again).as_str()), (seed(&ran), "all 192 192 0 none"));
+    assert_eq!((seed(&again), all(&again).as_str()), (seed(&ran), "all 224 224 0 none"));
     let (_, fresh) = mark("replay_fresh", &replay, &[]);
     assert_ne!(seed(&fresh), seed(&ran));
     // a log of one record may come again
     let accepted: usize = table(&fresh).last().unwrap()[2].parse().unwrap();
-    assert!(accepted <= 48, "{}", fresh.text());
+    assert!(accepted <= 56, "{}", fresh.text());
 }
 
 #[test]
@@ -182,7 +215,7 @@ fn no_answer_is_not_a_refused_one() {
         ("drips", "while :; do printf x; sleep 0.05; done", &["--limit", "3"], "not ended after 3 s"),
     ] {
         let (_, ran) = mark(name, &first(what), words);
-        assert_eq!((ran.status, all(&ran).as_str()), (1, "all 192 191 1 none"), "{name}");
+        assert_eq!((ran.status, all(&ran).as_str()), (1, "all 224 223 1 none"), "{name}");
         assert!(ran.text().ends_with(&format!(", version only, log of size 1: {said}\n")), "{}", ran.text());
     }
 }
@@ -193,7 +226,7 @@ fn an_output_that_is_held_open_is_not_waited_for() {
     let (folder, ran) = mark("held", &first("answer \"$@\"; sleep 60 2>&- & echo $! >left; exit 0"), &["--limit", "20"]);
     let left = String::from_utf8(folder.read("left")).unwrap();
     assert_eq!(run_with(Command::new("kill").arg(left.trim()), b"").status, 0, "it was there to the end");
-    assert_eq!((ran.status, all(&ran).as_str()), (0, "all 192 192 0 none"), "{}", ran.text());
+    assert_eq!((ran.status, all(&ran).as_str()), (0, "all 224 224 0 none"), "{}", ran.text());
     let seconds: f64 = ran.text().lines().last().unwrap().split_whitespace().nth(4).unwrap().parse().unwrap();
     assert!(seconds < 20.0, "{seconds}");
 }
@@ -203,7 +236,7 @@ fn a_program_may_have_words() {
     let folder = Folder::new("mark_words_of_its_own");
     let host = folder.host("host.sh", "[ \"$1\" = 'a b' ] && shift && answer \"$@\"");
     let ran = run(&["mark", "--seed", "5", "--", "sh", &host, "a b"]);
-    assert_eq!((all(&ran).as_str(), ran.status), ("all 192 192 0 none", 0), "{}", ran.err);
+    assert_eq!((all(&ran).as_str(), ran.status), ("all 224 224 0 none", 0), "{}", ran.err);
 }
 
 /// Runs `mark` in a folder.
@@ -220,7 +253,7 @@ fn a_file_here_has_to_be_named_as_one() {
         assert_eq!((ran.status, ran.text()), (2, ""));
         assert!(ran.err.contains("sh: the file in this folder is ./sh;"), "{}", ran.err);
     }
-    assert_eq!(all(&mark_in(&folder, &["./sh"])), "all 192 192 0 none");
+    assert_eq!(all(&mark_in(&folder, &["./sh"])), "all 224 224 0 none");
 }
 
 #[test]

@@ -60,7 +60,7 @@ impl Drop for NamedOnPanic {
 fn blank(random: &mut Random, name: Name, input: Vec<u8>) -> Call {
     let edges = [(); 4].map(|_| if random.once_in(2) { Edge::Start } else { Edge::End });
     let pattern = Pattern { first: random.byte(), step: [0, 1, random.byte()][random.index(3)] };
-    let question = Question { direction: 0, entity: 0, time: 0 };
+    let question = Question::new(0, 0, 0);
     Call { name, question, commitment: Vec::new(), input, work: 0, out: 0, pattern, edges }
 }
 
@@ -94,15 +94,15 @@ fn on_log(random: &mut Random) -> Vec<Call> {
 
 /// A question about nothing in particular.
 fn anything(random: &mut Random) -> Question {
-    Question { direction: random.byte(), entity: random.number() as u32, time: random.number() }
+    Question { until: random.number(), ..Question::new(random.byte(), random.number() as u32, random.number()) }
 }
 
 /// The check of an answer, and its records.
 fn on_answer(random: &mut Random) -> Vec<Call> {
-    let answers::Asked { question, commitment, answer, work } = answers::any(random);
+    let answers::Asked { question, commitment, answer, work, out } = answers::any(random);
     let call = |name| {
-        let work = any_length(random, work);
-        Call { question, commitment: commitment.clone(), work, ..blank(random, name, answer.clone()) }
+        let (work, out) = (any_length(random, work), any_length(random, out));
+        Call { question, commitment: commitment.clone(), work, out, ..blank(random, name, answer.clone()) }
     };
     [Name::Check, Name::Records].map(call).into()
 }

@@ -93,7 +93,7 @@ mod tests {
 
     /// Each call on Log K, with more work area and output than it needs.
     fn calls() -> Vec<Call> {
-        let question = Question { direction: 1, entity: 2, time: 35 };
+        let question = Question::new(1, 2, 35);
         let host = Host::new(&log_k());
         let edges = [Edge::Start, Edge::End, Edge::Start, Edge::End];
         let call = |name| {

@@ -8,16 +8,21 @@ use reference::DIRECTIONS;
 use crate::call::Call;
 
 /// The verdicts in words, by rising number from 1.
-const VERDICTS: [&str; 4] = ["no entity", "not yet", "found", "none so late"];
+const VERDICTS: [&str; 5] = ["no entity", "not yet", "found", "none so late", "listed"];
+
+/// The rows' numbers are below this one.
+const ROWS: usize = 26;
 
 /// Rows are counted by call, 0 for a call that is not turned away; verdicts by direction, 0 for none.
 #[derive(Clone, Debug, Default)]
 pub struct Tally {
     pub cases: u64,
-    rows: [[u64; 25]; NAMES.len()],
+    rows: [[u64; ROWS]; NAMES.len()],
     verdicts: [[u64; VERDICTS.len() + 1]; DIRECTIONS as usize],
     /// Calls of `records` that gave some.
     with_records: u64,
+    /// Checks that listed some versions.
+    with_list: u64,
 }
 
 impl Tally {
@@ -28,6 +33,7 @@ impl Tally {
             self.verdicts[call.question.direction as usize][verdict as usize] += 1;
         }
         self.with_records += u64::from(call.name == Name::Records && fields.get("length") > 0);
+        self.with_list += u64::from(verdict == reference::LISTED && fields.get("count") > 0);
     }
 
     pub fn calls(&self, name: Name) -> u64 {
@@ -36,12 +42,12 @@ impl Tally {
 
     /// The rows that a call met, 0 if it went through.
     pub fn rows_of(&self, name: Name) -> Vec<usize> {
-        (0..25).filter(|&row| self.rows[name as usize][row] > 0).collect()
+        (0..ROWS).filter(|&row| self.rows[name as usize][row] > 0).collect()
     }
 
     /// The rows that any call met.
     pub fn rows(&self) -> Vec<usize> {
-        (1..25).filter(|&row| self.rows.iter().any(|rows| rows[row] > 0)).collect()
+        (1..ROWS).filter(|&row| self.rows.iter().any(|rows| rows[row] > 0)).collect()
     }
 
     /// How often the check gave a verdict, by its number, in a direction.
@@ -51,6 +57,10 @@ impl Tally {
 
     pub fn with_records(&self) -> u64 {
         self.with_records
+    }
+
+    pub fn with_list(&self) -> u64 {
+        self.with_list
     }
 }
 
@@ -68,6 +78,6 @@ impl fmt::Display for Tally {
             let given: Vec<String> = VERDICTS.iter().zip(&given[1..]).map(|(verdict, times)| format!("{times} {verdict}")).collect();
             writeln!(text, "direction {direction}: {}", given.join(", "))?;
         }
-        write!(text, "{} with records", self.with_records)
+        write!(text, "{} with records, {} with a list of some versions", self.with_records, self.with_list)
     }
 }

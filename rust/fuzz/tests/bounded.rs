@@ -1,12 +1,15 @@
 //! A bounded number of cases: no case differs, and they reach every row, every verdict and every call.
 
+mod walker;
+
 use calls::{proved, Fields, Memory, Name, NAMES};
 use fuzz::case::Case;
 use fuzz::tally::Tally;
-use reference::{Question, DIRECTIONS, NONE_SO_LATE, NOT_YET};
+use reference::{Question, BETWEEN, NONE_SO_LATE, NOT_YET};
+use walker::Walker;
 
 const SEED: u64 = 1;
-const CASES: u64 = 24_000;
+const CASES: u64 = 32_000;
 
 fn run(seed: u64, cases: u64, library: impl Fn(Name, &Question, Memory) -> Fields + Copy) -> Result<Tally, String> {
     let mut tally = Tally::default();
@@ -23,8 +26,8 @@ fn rows(name: Name) -> Vec<usize> {
         Name::Hash | Name::Listing => vec![0, 13],
         Name::Log => (0..=9).collect(),
         Name::Commitment => [0].into_iter().chain(log).chain([12, 13]).collect(),
-        Name::Answer => [0].into_iter().chain(log).chain([11, 12, 13]).collect(),
-        Name::Check => [0, 11, 12].into_iter().chain(14..=24).collect(),
+        Name::Answer => [0].into_iter().chain(log).chain([11, 12, 13, 25]).collect(),
+        Name::Check => [0].into_iter().chain(11..=25).collect(),
         Name::Records => vec![0],
     }
 }
@@ -37,16 +40,17 @@ fn no_case_differs_and_all_is_reached() {
         assert!(tally.calls(name) > 5_000, "{name:?}: {} calls", tally.calls(name));
         assert_eq!(tally.rows_of(name), rows(name), "{name:?}");
     }
-    assert_eq!(tally.rows(), (1..=24).filter(|row| *row != 10).collect::<Vec<_>>());
-    // no entity, not yet and found in directions 0 to 2; no entity, found and none so late in directions 3 to 5
-    for (direction, verdicts) in [[1, 2, 3]; 3].into_iter().chain([[1, 3, 4]; 3]).enumerate() {
-        for verdict in 1..=4 {
+    assert_eq!(tally.rows(), (1..=25).filter(|row| *row != 10).collect::<Vec<_>>());
+    // no entity, not yet and found in directions 0 to 2; no entity, found and none so late in directions 3 to 5; no entity and listed in 6
+    let given: [&[usize]; 7] = [&[1, 2, 3], &[1, 2, 3], &[1, 2, 3], &[1, 3, 4], &[1, 3, 4], &[1, 3, 4], &[1, 5]];
+    for (direction, verdicts) in given.into_iter().enumerate() {
+        for verdict in 1..=5 {
             let times = tally.verdicts(direction, verdict);
             let enough = if verdicts.contains(&verdict) { times > 20 } else { times == 0 };
             assert!(enough, "direction {direction}, verdict {verdict}\n{tally}");
         }
     }
-    assert!(tally.with_records() > 500, "{tally}");
+    assert!(tally.with_records() > 500 && tally.with_list() > 200, "{tally}");
 }
 
 /// Leaves the last byte of the work area as it was.
@@ -86,7 +90,7 @@ fn asks_for_another_time(name: Name, question: &Question, memory: Memory) -> Fie
 
 /// Takes at or after for at or before.
 fn looks_back_only(name: Name, question: &Question, memory: Memory) -> Fields {
-    let direction = if question.direction < DIRECTIONS { question.direction % 3 } else { question.direction };
+    let direction = if question.direction < BETWEEN { question.direction % 3 } else { question.direction };
     proved(name, &Question { direction, ..*question }, memory)
 }
 
@@ -99,10 +103,62 @@ fn without_time(stop: u64, name: Name, question: &Question, memory: Memory) -> F
     fields
 }
 
+/// Writes to the output of a check without a list.
+fn touches_the_output(name: Name, question: &Question, memory: Memory) -> Fields {
+    let Memory { commitment, input, work, out } = memory;
+    let fields = proved(name, question, Memory { commitment, input, work, out: &mut *out });
+    if let (Name::Check, 2, Some(byte)) = (name, question.direction, out.first_mut()) {
+        *byte ^= 1;
+    }
+    fields
+}
+
+/// Meets row 25 in a direction that has no later time.
+fn looks_at_until(name: Name, question: &Question, memory: Memory) -> Fields {
+    let mut fields = proved(name, question, memory);
+    if (name, question.direction) == (Name::Check, 1) && question.time > question.until {
+        fields.names().iter().for_each(|field| fields.set(field, 0));
+        fields.set("number", 25);
+    }
+    fields
+}
+
+/// Meets row 14 before row 25.
+fn looks_at_the_commitment_first(name: Name, question: &Question, memory: Memory) -> Fields {
+    let is_short = memory.commitment.len() != 32;
+    let mut fields = proved(name, question, memory);
+    if name == Name::Check && fields.get("number") == 25 && is_short {
+        fields.set("number", 14);
+    }
+    fields
+}
+
+/// Leaves the later end of a span out.
+fn excludes_until(name: Name, question: &Question, memory: Memory) -> Fields {
+    let until = question.until.saturating_sub(u64::from(question.until > question.time));
+    proved(name, &Question { until, ..*question }, memory)
+}
+
+/// The checks of spans as the walker makes them, and all other calls as they are.
+fn walked(walker: Walker, name: Name, question: &Question, memory: Memory) -> Fields {
+    match (name, question.direction) {
+        (Name::Check, BETWEEN) => walker.check(question, memory),
+        _ => proved(name, question, memory),
+    }
+}
+
+/// A right walker is not told apart, so that a wrong one is by what is wrong with it.
+#[test]
+fn a_right_walker_passes() {
+    let right = |name: Name, question: &Question, memory: Memory| walked(Walker::RIGHT, name, question, memory);
+    run(SEED, CASES, right).unwrap_or_else(|difference| panic!("{difference}"));
+}
+
 /// Wrong libraries, each nearly right: the same cases tell them from the proved one.
 #[test]
 fn wrong_libraries_are_told_apart() {
-    let wrong: [fn(Name, &Question, Memory) -> Fields; 7] = [
+    const RIGHT: Walker = Walker::RIGHT;
+    let wrong: [fn(Name, &Question, Memory) -> Fields; 16] = [
         keeps_a_byte,
         writes_though_refused,
         takes_22_for_24,
@@ -110,6 +166,15 @@ fn wrong_libraries_are_told_apart() {
         looks_back_only,
         |name, question, memory| without_time(NOT_YET, name, question, memory),
         |name, question, memory| without_time(NONE_SO_LATE, name, question, memory),
+        touches_the_output,
+        looks_at_until,
+        looks_at_the_commitment_first,
+        excludes_until,
+        |name, question, memory| walked(Walker { by_keys: true, ..RIGHT }, name, question, memory),
+        |name, question, memory| walked(Walker { right_first: true, ..RIGHT }, name, question, memory),
+        |name, question, memory| walked(Walker { output_first: true, ..RIGHT }, name, question, memory),
+        |name, question, memory| walked(Walker { nodes: 17, ..RIGHT }, name, question, memory),
+        |name, question, memory| walked(Walker { nodes: 15, ..RIGHT }, name, question, memory),
     ];
     for (place, library) in wrong.into_iter().enumerate() {
         let difference = run(SEED, CASES, library).expect_err(&format!("wrong library {place} passes"));

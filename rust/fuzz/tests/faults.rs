@@ -12,7 +12,8 @@ fn run_child(wanted: &str) -> Output {
 
 #[test]
 fn touching_what_is_not_lent_is_a_fault() {
-    for wanted in ["read after", "read before", "write after", "write before", "write input"] {
+    let beside_the_output = ["write after the output", "write before the output"];
+    for wanted in ["read after", "read before", "write after", "write before", "write input"].into_iter().chain(beside_the_output) {
         let output = run_child(wanted);
         let said = String::from_utf8_lossy(&output.stderr);
         assert_eq!(output.status.signal(), Some(FORBIDDEN_ADDRESS), "{wanted}: {said}");

@@ -1,4 +1,4 @@
-//! The reader of answers (section Questions and answers; the table, rows 11 to 24).
+//! The reader of answers (section Questions and answers; the table, rows 11 to 24; requests A1 and A2).
 
 use std::ops::Range;
 
@@ -6,7 +6,7 @@ use crate::fields::{digest_at, u32_at, u64_at};
 use crate::graph::{incoming_digests_by, outgoing_digests_by, Dependency, Name, Version};
 use crate::hash::{Hash, H};
 use crate::log::MOST_RECORDS;
-use crate::question::{Asked, Question, Verdict, Way};
+use crate::question::{One, Question, Sought, Span, Verdict, Way};
 use crate::refusal::{enough_work, refuse, Refusal};
 use crate::sha256::Digest;
 use crate::trace::{found_place, record_width, trace_letter, HEADER};
@@ -20,7 +20,10 @@ pub struct Accepted {
     pub records: Option<Range<usize>>,
 }
 
-/// Where the proof ends.
+/// No path in an entity's tree has more N strings: where another would stand, no letter is due.
+const MOST_NODES: usize = 16;
+
+/// Where the walk for one version ends.
 enum End {
     Stopped(Verdict),
     Found(Leaf),
@@ -33,7 +36,17 @@ struct Leaf {
     outgoing: Digest,
 }
 
-/// The rows by their order: 11, 14, the proof, the trace.
+impl Leaf {
+    fn of(string: &[u8]) -> Self {
+        Leaf {
+            name: Name { entity: u32_at(string, 1), time: u64_at(string, 5) },
+            incoming: digest_at(string, 13),
+            outgoing: digest_at(string, 45),
+        }
+    }
+}
+
+/// The rows by their order: 11, 25, 14, the proof, the trace. Row 13, which comes after these, is met where a list is written.
 pub fn check(question: &Question, commitment: &[u8], answer: &[u8], work: usize) -> Result<Accepted, Refusal> {
     check_by(&mut H, question, commitment, answer, work)
 }
@@ -45,17 +58,24 @@ pub fn check_by(
     answer: &[u8],
     work: usize,
 ) -> Result<Accepted, Refusal> {
-    let Some(asked) = question.asked() else {
-        return refuse(11, 0);
-    };
+    let asked = question.asked()?;
     let Ok(commitment) = <&Digest>::try_from(commitment) else {
         return refuse(14, 0);
     };
     let mut cursor = Cursor { answer, place: 0 };
-    let verdict = match (proof(hash, &asked, commitment, &mut cursor)?, asked.way) {
-        (End::Stopped(verdict), _) => verdict,
-        (End::Found(leaf), None) => Verdict::Found { time: leaf.name.time, count: 0 },
-        (End::Found(leaf), Some(way)) => return trace(hash, way, &leaf, &mut cursor, work),
+    let root = cursor.open(hash, b'R', ROOT, commitment)?;
+    let verdict = match (entity_walk(hash, asked.entity.into(), Subtree::at(root, 17), &mut cursor)?, asked.sought) {
+        (None, _) => Verdict::NoEntity,
+        (Some(tree), Sought::One(one)) => match (time_walk(hash, &one, tree, &mut cursor)?, one.way) {
+            (End::Stopped(verdict), _) => verdict,
+            (End::Found(leaf), None) => Verdict::Found { time: leaf.name.time, count: 0 },
+            (End::Found(leaf), Some(way)) => return trace(hash, way, &leaf, &mut cursor, work),
+        },
+        (Some(tree), Sought::All(span)) => {
+            let mut names = Vec::new();
+            span_walk(hash, &span, tree, MOST_NODES, &mut cursor, &mut names)?;
+            Verdict::Listed(names)
+        }
     };
     cursor.end()?;
     Ok(Accepted { verdict, records: None })
@@ -104,15 +124,6 @@ impl<'a> Cursor<'a> {
     }
 }
 
-/// The opened strings, top down.
-fn proof(hash: &mut impl Hash, asked: &Asked, commitment: &Digest, cursor: &mut Cursor) -> Result<End, Refusal> {
-    let root = cursor.open(hash, b'R', ROOT, commitment)?;
-    match entity_walk(hash, u64::from(asked.entity), Subtree::at(root, 17), cursor)? {
-        None => Ok(End::Stopped(Verdict::NoEntity)),
-        Some(tree) => time_walk(hash, asked, tree, cursor),
-    }
-}
-
 /// The walk in the tree of entities; gives the entity's tree, or none: no entity.
 fn entity_walk(hash: &mut impl Hash, s: u64, mut known: Subtree, cursor: &mut Cursor) -> Result<Option<Subtree>, Refusal> {
     loop {
@@ -129,24 +140,45 @@ fn entity_walk(hash: &mut impl Hash, s: u64, mut known: Subtree, cursor: &mut Cu
     }
 }
 
-/// The walk in the entity's tree, to a stop or to the opened L.
-fn time_walk(hash: &mut impl Hash, asked: &Asked, mut known: Subtree, cursor: &mut Cursor) -> Result<End, Refusal> {
+/// The walk in the entity's tree for one version, to a stop or to the opened L.
+fn time_walk(hash: &mut impl Hash, one: &One, mut known: Subtree, cursor: &mut Cursor) -> Result<End, Refusal> {
     loop {
-        if let Some(verdict) = asked.stop(known.least, known.greatest) {
+        if let Some(verdict) = one.stop(known.least, known.greatest) {
             return Ok(End::Stopped(verdict));
         }
         if known.least == known.greatest {
-            let string = cursor.open(hash, b'L', LEAF, &known.digest)?;
-            return Ok(End::Found(Leaf {
-                name: Name { entity: u32_at(string, 1), time: u64_at(string, 5) },
-                incoming: digest_at(string, 13),
-                outgoing: digest_at(string, 45),
-            }));
+            return Ok(End::Found(Leaf::of(cursor.open(hash, b'L', LEAF, &known.digest)?)));
         }
         let string = cursor.open(hash, b'N', NODE, &known.digest)?;
         let (left, right) = (Subtree::at(string, 1), Subtree::at(string, 49));
-        known = if asked.goes_left(&left, &right) { left } else { right };
+        known = if one.goes_left(&left, &right) { left } else { right };
     }
+}
+
+/// The strings of a known subtree that the span meets, in preorder, with at most `nodes` N strings on a path. The names of the opened L
+/// strings are added to those before.
+fn span_walk(
+    hash: &mut impl Hash,
+    span: &Span,
+    known: Subtree,
+    nodes: usize,
+    cursor: &mut Cursor,
+    names: &mut Vec<Name>,
+) -> Result<(), Refusal> {
+    if !span.meets(known.least, known.greatest) {
+        return Ok(());
+    }
+    if known.least == known.greatest {
+        names.push(Leaf::of(cursor.open(hash, b'L', LEAF, &known.digest)?).name);
+        return Ok(());
+    }
+    if nodes == 0 {
+        // no letter is due
+        return cursor.piece(|_| None).map(|_| ());
+    }
+    let string = cursor.open(hash, b'N', NODE, &known.digest)?;
+    span_walk(hash, span, Subtree::at(string, 1), nodes - 1, cursor, names)?;
+    span_walk(hash, span, Subtree::at(string, 49), nodes - 1, cursor, names)
 }
 
 /// A record of a trace and its first byte.

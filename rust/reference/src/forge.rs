@@ -156,6 +156,37 @@ pub fn long_proof(depth: usize, l: Vec<u8>) -> Vec<Vec<u8>> {
     strings
 }
 
+/// A subtree's 48 bytes, and its strings in preorder.
+#[derive(Clone, Debug)]
+pub struct Opened {
+    pub known: Vec<u8>,
+    pub strings: Vec<u8>,
+}
+
+/// A string that nothing is opened below, with any keys.
+pub fn opened(least: u64, greatest: u64, string: &[u8]) -> Opened {
+    Opened { known: known(least, greatest, string), strings: string.to_vec() }
+}
+
+/// An N with any keys over two subtrees, all of them opened.
+pub fn opened_node(least: u64, greatest: u64, left: &Opened, right: &Opened) -> Opened {
+    let n = node(b'N', &left.known, &right.known);
+    Opened { known: known(least, greatest, &n), strings: [&n, &left.strings[..], &right.strings].concat() }
+}
+
+/// R and G over an entity's tree, for a question about that entity.
+pub fn proof_of_tree(entity: u32, tree: &Opened) -> Fitting {
+    let (g, key) = (group(&tree.known), u64::from(entity));
+    let Fitting { commitment, mut answer } = proof(&[root(&known(key, key, &g)), g]);
+    answer.extend_from_slice(&tree.strings);
+    Fitting { commitment, answer }
+}
+
+/// A tree with that many N strings on every path, all of whose leaves are one L with the key 5. The keys above them are 0 and 9.
+pub fn full_tree(depth: usize, l: &[u8]) -> Opened {
+    (0..depth).fold(opened(5, 5, l), |tree, _| opened_node(0, 9, &tree, &tree))
+}
+
 /// The pieces of a whole answer, each known by its letter.
 #[derive(Clone, Debug)]
 pub struct Pieces {

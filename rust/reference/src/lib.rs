@@ -29,7 +29,7 @@ pub mod trace;
 pub mod tree;
 pub mod vectors;
 
-pub use question::{Asked, Question, Relation, Verdict, Way, DIRECTIONS};
+pub use question::{Asked, One, Question, Relation, Sought, Span, Verdict, Way, BETWEEN, DIRECTIONS};
 pub use refusal::{Refusal, WORK};
 use refusal::{enough_work, refuse};
 
@@ -54,9 +54,13 @@ pub const NO_ENTITY: u64 = 1;
 pub const NOT_YET: u64 = 2;
 pub const FOUND: u64 = 3;
 pub const NONE_SO_LATE: u64 = 4;
+pub const LISTED: u64 = 5;
+
+/// Bytes of a version in a list: entity and time.
+pub const LIST_ENTRY: usize = 12;
 
 /// The result of a check. `time` is the found version's, the entity's first with not yet and its last with none so late, else 0; `count` is
-/// 0 unless found.
+/// the number of a found version's records or of the versions listed, else 0.
 #[derive(Clone, Copy, Debug, Default, PartialEq, Eq)]
 pub struct Checked {
     pub number: u64,
@@ -101,44 +105,59 @@ fn commitment_result(log: &[u8], work: usize, out: &mut [u8]) -> Result<usize, R
     write(&host::Host::new(&records).commitment(), out)
 }
 
-/// The answer to a question about a log. 11, log, 12, 13.
+/// The answer to a question about a log. 11, 25, log, 12, 13.
 pub fn answer(
     direction: u8,
     entity: u32,
     time: u64,
+    until: u64,
     log: &[u8],
     work: &mut [u8],
     out: &mut [u8],
 ) -> Written {
     let length = work.len();
     work.fill(0);
-    written(answer_result(&Question { direction, entity, time }, log, length, out))
+    written(answer_result(&Question { direction, entity, time, until }, log, length, out))
 }
 
 fn answer_result(question: &Question, log: &[u8], work: usize, out: &mut [u8]) -> Result<usize, Refusal> {
-    let Some(asked) = question.asked() else {
-        return refuse(11, 0);
-    };
+    let asked = question.asked()?;
     let records = log::read(log)?;
     enough_work(work, records.len())?;
     write(&host::Host::new(&records).answer_to(&mut hash::H, &asked), out)
 }
 
-/// The check of an answer. 11, 14, the proof, the trace.
+/// The check of an answer. 11, 25, 14, the proof, the trace; in direction 6 then 13, and the list is the output's first bytes.
+#[allow(clippy::too_many_arguments)]
 pub fn check(
     direction: u8,
     entity: u32,
     time: u64,
+    until: u64,
     commitment: &[u8],
     answer: &[u8],
     work: &mut [u8],
+    out: &mut [u8],
 ) -> Checked {
     let length = work.len();
     work.fill(0);
-    match check::check(&Question { direction, entity, time }, commitment, answer, length) {
+    match check_result(&Question { direction, entity, time, until }, commitment, answer, length, out) {
         Err(Refusal { number, position }) => Checked { number, position, ..Checked::default() },
-        Ok(accepted) => checked(accepted.verdict),
+        Ok(verdict) => checked(verdict),
     }
+}
+
+fn check_result(question: &Question, commitment: &[u8], answer: &[u8], work: usize, out: &mut [u8]) -> Result<Verdict, Refusal> {
+    let verdict = check::check(question, commitment, answer, work)?.verdict;
+    if let Verdict::Listed(names) = &verdict {
+        write(&list(names), out)?;
+    }
+    Ok(verdict)
+}
+
+/// A list as the check writes it: each version's entity and time.
+pub fn list(names: &[graph::Name]) -> Vec<u8> {
+    names.iter().flat_map(|name| [&name.entity.to_be_bytes()[..], &name.time.to_be_bytes()].concat()).collect()
 }
 
 fn checked(verdict: Verdict) -> Checked {
@@ -147,23 +166,25 @@ fn checked(verdict: Verdict) -> Checked {
         Verdict::NotYet { first } => (NOT_YET, first, 0),
         Verdict::NoneSoLate { last } => (NONE_SO_LATE, last, 0),
         Verdict::Found { time, count } => (FOUND, time, count),
+        Verdict::Listed(names) => (LISTED, 0, names.len() as u64),
     };
     Checked { verdict, time, count, ..Checked::default() }
 }
 
 /// The checked records as a part of the answer, without the trace header;
-/// empty if there are none or the check refuses.
+/// empty if there are none or the check refuses. A list has none.
 pub fn records(
     direction: u8,
     entity: u32,
     time: u64,
+    until: u64,
     commitment: &[u8],
     answer: &[u8],
     work: &mut [u8],
 ) -> Part {
     let length = work.len();
     work.fill(0);
-    let question = Question { direction, entity, time };
+    let question = Question { direction, entity, time, until };
     match check::check(&question, commitment, answer, length) {
         Ok(check::Accepted { records: Some(place), .. }) => {
             Part { start: place.start as u64, length: place.len() as u64 }

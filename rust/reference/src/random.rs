@@ -5,7 +5,7 @@ use crate::forge::{fits, records_of, trace_with_count};
 use crate::graph::{incoming_digests, outgoing_digests, Dependency, Name, Version};
 use crate::hash::H;
 use crate::log::{births, write, Record, MOST_RECORDS};
-use crate::question::{Asked, Question, Relation, Way, DIRECTIONS};
+use crate::question::{Asked, One, Question, Relation, Sought, Span, Way, BETWEEN, DIRECTIONS};
 use crate::sha256::{sha256, Digest};
 use crate::trace::{found_place, trace_letter};
 use crate::tree::{leaf_string, Subtree, NODE};
@@ -249,18 +249,39 @@ pub fn overlong_log(random: &mut Random) -> Fault {
     Fault { log, number: 2, position }
 }
 
-/// A question about a log, known unless once in 16; entities and times lie at or near
-/// those of the log, or anywhere.
+/// A question about a log, known unless once in 16.
 pub fn question(random: &mut Random, records: &[Record]) -> Question {
-    let direction = if random.once_in(16) { random.byte() } else { known_direction(random) };
-    let record = records[random.index(records.len())];
-    let entity = match record {
+    let known = known_question(random, records);
+    match random.below(32) {
+        0 => Question { direction: random.byte(), ..known },
+        1 => Question { direction: BETWEEN, time: known.until, until: known.time, ..known },
+        _ => known,
+    }
+}
+
+pub fn known_question(random: &mut Random, records: &[Record]) -> Question {
+    let direction = known_direction(random);
+    question_of(random, records, direction)
+}
+
+/// A question of a direction, known if that is. Entities and times lie at or near those of the log, or anywhere. The later end of a span is not
+/// first; in another direction it lies on either side of the time.
+pub fn question_of(random: &mut Random, records: &[Record], direction: u8) -> Question {
+    let entity = match records[random.index(records.len())] {
         Record::Birth { entity, .. } => entity,
         Record::Flow { source, destination, .. } if random.once_in(2) => source.max(destination),
         Record::Flow { source, destination, .. } => source.min(destination),
     };
-    let time = records[random.index(records.len())].time();
-    Question { direction, entity: near(random, u64::from(entity)) as u32, time: near(random, time) }
+    let entity = near(random, u64::from(entity)) as u32;
+    let mut any_time = || {
+        let time = records[random.index(records.len())].time();
+        near(random, time)
+    };
+    let (time, until) = (any_time(), any_time());
+    match direction {
+        BETWEEN => Question::between(entity, time.min(until), time.max(until)),
+        _ => Question { direction, entity, time, until },
+    }
 }
 
 pub fn known_direction(random: &mut Random) -> u8 {
@@ -333,9 +354,9 @@ struct Opening {
 }
 
 pub fn forged(random: &mut Random) -> Forged {
-    let direction = known_direction(random);
-    let question = Question { direction, entity: random.below(8) as u32, time: random.below(8) };
-    let asked = question.asked().expect("a known direction");
+    let (direction, entity, time) = (known_direction(random), random.below(8) as u32, random.below(8));
+    let question = Question { direction, entity, time, until: time + random.below(4) };
+    let asked = question.asked().expect("a known question");
     let depth = random.below(4);
     let top = forged_tree(random, b'P', depth, &asked);
     let mut root = b"R".to_vec();
@@ -347,8 +368,15 @@ pub fn forged(random: &mut Random) -> Forged {
     Forged { question, commitment, answer }
 }
 
-/// A tree of P or N strings over G or L strings. A leaf has equal keys, and
-/// any other subtree unequal ones, so that the letter due is the one there.
+/// The time that keys are made around.
+fn time_of(asked: &Asked) -> u64 {
+    match asked.sought {
+        Sought::One(One { time, .. }) => time,
+        Sought::All(Span { from, .. }) => from,
+    }
+}
+
+/// A tree of P or N strings over G or L strings.
 fn forged_tree(random: &mut Random, letter: u8, depth: u64, asked: &Asked) -> Opening {
     if depth == 0 {
         return if letter == b'P' { forged_group(random, asked) } else { forged_leaf(random, asked) };
@@ -356,15 +384,30 @@ fn forged_tree(random: &mut Random, letter: u8, depth: u64, asked: &Asked) -> Op
     let (left_depth, right_depth) = (random.below(depth), random.below(depth));
     let left = forged_tree(random, letter, left_depth, asked);
     let right = forged_tree(random, letter, right_depth, asked);
+    let key = if letter == b'P' { u64::from(asked.entity) } else { time_of(asked) };
+    let keys = forged_keys(random, key);
+    forged_node(letter, left, right, keys)
+}
+
+/// A tree with a path of so many N strings, mostly with keys around all others.
+fn forged_path(random: &mut Random, nodes: u64, asked: &Asked) -> Opening {
+    let mut tree = forged_leaf(random, asked);
+    for _ in 0..nodes {
+        let other = forged_leaf(random, asked);
+        let (left, right) = if random.once_in(2) { (tree, other) } else { (other, tree) };
+        let keys = if random.once_in(40) { forged_keys(random, time_of(asked)) } else { (0, u64::MAX - 1) };
+        tree = forged_node(b'N', left, right, keys);
+    }
+    tree
+}
+
+/// P or N over two subtrees. A leaf has equal keys, and any other subtree unequal ones, so that the letter due is the one there.
+fn forged_node(letter: u8, left: Opening, right: Opening, (least, greatest): (u64, u64)) -> Opening {
     let mut string = Vec::with_capacity(NODE);
     string.push(letter);
     string.extend_from_slice(&left.known.bytes());
     string.extend_from_slice(&right.known.bytes());
-    let key = if letter == b'P' { u64::from(asked.entity) } else { asked.time };
-    let (least, mut greatest) = forged_keys(random, key);
-    if least == greatest {
-        greatest += 1;
-    }
+    let greatest = if least == greatest { greatest + 1 } else { greatest };
     let known = Subtree { least, greatest, digest: sha256(&string) };
     Opening { known, string, below: vec![left, right], trace: Vec::new() }
 }
@@ -382,8 +425,11 @@ fn forged_keys(random: &mut Random, key: u64) -> (u64, u64) {
 }
 
 fn forged_group(random: &mut Random, asked: &Asked) -> Opening {
-    let depth = random.below(4);
-    let tree = forged_tree(random, b'N', depth, asked);
+    let tree = match random.below(16) {
+        0 => forged_path(random, 15, asked),
+        1 => forged_path(random, 17, asked),
+        depth => forged_tree(random, b'N', depth % 4, asked),
+    };
     let mut string = b"G".to_vec();
     string.extend(random.bytes(8));
     string.extend_from_slice(&tree.known.bytes());
@@ -393,9 +439,12 @@ fn forged_group(random: &mut Random, asked: &Asked) -> Opening {
 }
 
 fn forged_leaf(random: &mut Random, asked: &Asked) -> Opening {
-    let way = asked.way.unwrap_or(Way::Forward);
-    let versions = forged_versions(random, way);
-    let found = found_place(way, versions.len());
+    let way = match asked.sought {
+        Sought::One(one) => one.way,
+        Sought::All(_) => None,
+    };
+    let versions = forged_versions(random, way.unwrap_or(Way::Forward));
+    let found = found_place(way.unwrap_or(Way::Forward), versions.len());
     let mut name = versions[found].name;
     let (mut incoming, mut outgoing) = (random.digest(), random.digest());
     if fits(&versions) && !random.once_in(16) {
@@ -406,13 +455,19 @@ fn forged_leaf(random: &mut Random, asked: &Asked) -> Opening {
         name.entity ^= 1;
     }
     let string = leaf_string(name, &incoming, &outgoing).to_vec();
-    let trace = asked.way.map(|way| forged_trace(random, way, &versions)).unwrap_or_default();
-    let (least, greatest) = forged_keys(random, asked.time);
-    let key = match asked.relation {
-        Relation::AtOrBefore => least,
-        Relation::AtOrAfter => greatest,
-    };
+    let trace = way.map(|way| forged_trace(random, way, &versions)).unwrap_or_default();
+    let key = forged_key(random, asked);
     Opening { known: Subtree::leaf(&mut H, key, &string), string, below: Vec::new(), trace }
+}
+
+/// A leaf's key, mostly one that is sought.
+fn forged_key(random: &mut Random, asked: &Asked) -> u64 {
+    let (least, greatest) = forged_keys(random, time_of(asked));
+    match asked.sought {
+        Sought::One(One { relation: Relation::AtOrBefore, .. }) => least,
+        Sought::One(One { relation: Relation::AtOrAfter, .. }) => greatest,
+        Sought::All(_) => random.pick(&[least, greatest, greatest]),
+    }
 }
 
 /// Versions with arbitrary edges, mostly from earlier ones and by rising time.
@@ -459,34 +514,43 @@ fn forged_trace(random: &mut Random, way: Way, versions: &[Version]) -> Vec<u8> 
     trace_with_count(trace_letter(way), count, &records_of(way, versions))
 }
 
-/// Writes the strings that the walk opens, and the trace.
+/// Writes the strings that are opened below R, and the trace.
 fn open_forged(asked: &Asked, opening: &Opening, answer: &mut Vec<u8>) {
     let mut opening = opening;
-    let mut in_group = false;
+    let entity = u64::from(asked.entity);
     loop {
-        let known = &opening.known;
-        let entity = u64::from(asked.entity);
-        let stop = if in_group {
-            asked.stop(known.least, known.greatest).is_some()
-        } else {
-            entity < known.least || entity > known.greatest
-        };
-        if stop {
+        if entity < opening.known.least || entity > opening.known.greatest {
             return;
         }
         answer.extend_from_slice(&opening.string);
-        opening = match (opening.string[0], &opening.below[..]) {
-            (b'P', [left, _]) if entity <= left.known.greatest => left,
-            (b'N', [left, right]) if asked.goes_left(&left.known, &right.known) => left,
-            (b'P' | b'N', [_, right]) => right,
-            (b'G', [tree]) => {
-                in_group = true;
-                tree
-            }
-            _ => {
-                answer.extend_from_slice(&opening.trace);
-                return;
-            }
+        opening = match &opening.below[..] {
+            [left, right] => if entity <= left.known.greatest { left } else { right },
+            [tree] => return match &asked.sought {
+                Sought::One(one) => open_forged_one(one, tree, answer),
+                Sought::All(span) => open_forged_span(span, tree, answer),
+            },
+            _ => return,
         };
+    }
+}
+
+/// The strings in G's tree that lead to the version sought, and the trace.
+fn open_forged_one(one: &One, opening: &Opening, answer: &mut Vec<u8>) {
+    let mut opening = opening;
+    while one.stop(opening.known.least, opening.known.greatest).is_none() {
+        answer.extend_from_slice(&opening.string);
+        let [left, right] = &opening.below[..] else {
+            answer.extend_from_slice(&opening.trace);
+            return;
+        };
+        opening = if one.goes_left(&left.known, &right.known) { left } else { right };
+    }
+}
+
+/// The strings in G's tree that the span meets, in preorder, whatever their number on a path.
+fn open_forged_span(span: &Span, opening: &Opening, answer: &mut Vec<u8>) {
+    if span.meets(opening.known.least, opening.known.greatest) {
+        answer.extend_from_slice(&opening.string);
+        opening.below.iter().for_each(|below| open_forged_span(span, below, answer));
     }
 }

@@ -1,7 +1,7 @@
 //! Logs by hand, and every question about a log, for tests.
 
 use crate::log::{self, Record};
-use crate::question::{Question, DIRECTIONS};
+use crate::question::{Question, BETWEEN};
 
 pub fn birth(entity: u32, time: u64) -> Record {
     Record::Birth { entity, time }
@@ -37,17 +37,37 @@ pub fn in_turn(count: usize) -> Vec<Record> {
     two_entities(count, |n| n as u32 & 1)
 }
 
-/// Every question that a log can tell apart: entities and times at, one before and one after those of the log, the least and the greatest.
+/// Every question for one version that a log can tell apart: entities and times at, one before and one after those of the log, the least and
+/// the greatest.
 pub fn questions(records: &[Record]) -> Vec<Question> {
-    let entities = near(log::births(records).map(u64::from), u64::from(u32::MAX));
-    let times = near(records.iter().map(Record::time), u64::MAX);
+    let times = times(records);
     let mut questions = Vec::new();
-    for &entity in &entities {
+    for entity in entities(records) {
         for &time in &times {
-            questions.extend((0..DIRECTIONS).map(|direction| Question { direction, entity: entity as u32, time }));
+            questions.extend((0..BETWEEN).map(|direction| Question::new(direction, entity, time)));
         }
     }
     questions
+}
+
+/// Every question for all versions between two of these times, the later one not first.
+pub fn spans(records: &[Record]) -> Vec<Question> {
+    let times = times(records);
+    let mut questions = Vec::new();
+    for entity in entities(records) {
+        for (place, &from) in times.iter().enumerate() {
+            questions.extend(times[place..].iter().map(|&until| Question::between(entity, from, until)));
+        }
+    }
+    questions
+}
+
+fn entities(records: &[Record]) -> Vec<u32> {
+    near(log::births(records).map(u64::from), u64::from(u32::MAX)).into_iter().map(|entity| entity as u32).collect()
+}
+
+fn times(records: &[Record]) -> Vec<u64> {
+    near(records.iter().map(Record::time), u64::MAX)
 }
 
 fn near(values: impl Iterator<Item = u64>, most: u64) -> Vec<u64> {

@@ -1,13 +1,15 @@
 //! False answers that pass under a weak hash, and the two strings of one hash that each of them shows.
 
 use reference::check::check_by;
-use reference::collision::{building, checking, find};
+use reference::collision::{building, checking, find, Collision};
+use reference::forge::{pieces, Pieces};
+use reference::graph::Name;
 use reference::hash::Keeping;
 use reference::host::Host;
 use reference::random::Random;
 use reference::sample::log_k;
 use reference::sha256::{sha256, Digest};
-use reference::{Question, WORK};
+use reference::{Question, Verdict, WORK};
 
 /// 12 bits of SHA-256: a changed string has its old hash once in 4,096 times.
 fn weak(string: &[u8]) -> Digest {
@@ -35,14 +37,17 @@ fn changed(random: &mut Random, answer: &[u8]) -> Vec<u8> {
 }
 
 /// Each with the letters of the strings hashed in its check.
-const QUESTIONS: [(Question, &str); 7] = [
-    (Question { direction: 1, entity: 2, time: 35 }, "GIIILNPR"),
-    (Question { direction: 2, entity: 1, time: 39 }, "GLNOOOPR"),
-    (Question { direction: 0, entity: 2, time: 20 }, "GLNPR"),
-    (Question { direction: 4, entity: 2, time: 21 }, "GIIILNPR"),
-    (Question { direction: 5, entity: 2, time: 21 }, "GLNOOPR"),
-    (Question { direction: 3, entity: 1, time: 11 }, "GLNPR"),
-    (Question { direction: 3, entity: 2, time: 31 }, "GPR"),
+const QUESTIONS: [(Question, &str); 10] = [
+    (Question::new(1, 2, 35), "GIIILNPR"),
+    (Question::new(2, 1, 39), "GLNOOOPR"),
+    (Question::new(0, 2, 20), "GLNPR"),
+    (Question::new(4, 2, 21), "GIIILNPR"),
+    (Question::new(5, 2, 21), "GLNOOPR"),
+    (Question::new(3, 1, 11), "GLNPR"),
+    (Question::new(3, 2, 31), "GPR"),
+    (Question::between(1, 10, 40), "GLLNPR"),
+    (Question::between(2, 21, 30), "GLNPR"),
+    (Question::between(2, 21, 29), "GNPR"),
 ];
 
 #[test]
@@ -67,6 +72,23 @@ fn every_false_answer_that_passes_shows_a_collision() {
         }
         assert!(passed - before > 10, "{question:?}: {}", passed - before);
     }
+}
+
+/// A host that leaves a version out has to say in N that it lies off the span, and to find an N of the same hash.
+#[test]
+fn a_version_left_out_shows_a_collision() {
+    let (records, question) = (log_k(), Question::between(1, 10, 40));
+    let (commitment, _) = building(weak, &records);
+    let host = Host::by(&mut keeping(), &records);
+    let Pieces { strings, .. } = pieces(&host.answer_by(&mut keeping(), &question));
+    let [r, p, g, n, first, _second] = &strings[..] else { panic!("six strings") };
+    let off = |key: u64| [&n[..49], &key.to_be_bytes(), &key.to_be_bytes(), &n[65..]].concat();
+    let planted = (41..).map(off).find(|other| weak(other) == weak(n)).expect("such an N");
+    let answer = [r, p, g, &planted, first].map(|string| &string[..]).concat();
+    let given = check_by(&mut keeping(), &question, &commitment, &answer, 0).expect("accepted").verdict;
+    assert_eq!(given, Verdict::Listed(vec![Name { entity: 1, time: 10 }]));
+    let collision = find(weak, &records, &question, &answer);
+    assert_eq!(collision, Some(Collision { built: n.clone(), checked: planted }));
 }
 
 #[test]

@@ -4,10 +4,12 @@
 mod common;
 
 use common::*;
-use reference::forge::{group, known, leaf, long_proof, node, proof, record, root, trace, Fitting};
+use reference::forge::{
+    full_tree, group, known, leaf, long_proof, node, opened, opened_node, proof, proof_of_tree, record, root, trace, Fitting, Opened,
+};
 use reference::random::{damaged_answer, forged, Random};
 use reference::sha256::sha256;
-use reference::DIRECTIONS;
+use reference::{BETWEEN, DIRECTIONS};
 
 #[test]
 fn own_keys_are_not_compared() {
@@ -138,6 +140,94 @@ fn long_walks() {
     }
 }
 
+/// The check of a span from 3 to 7 of entity 1, with just enough output.
+fn listed(fitting: &Fitting) -> (reference::Checked, Vec<u8>) {
+    let q = between(1, 3, 7);
+    let checked = check_with(q, &fitting.commitment, &fitting.answer, 0);
+    list_with(q, &fitting.commitment, &fitting.answer, 0, 12 * checked.count as usize)
+}
+
+/// An L string of any name.
+fn named(entity: u32, time: u64) -> Vec<u8> {
+    leaf(entity, time, &[1; 32], &[2; 32])
+}
+
+/// The list has what the L strings say: other names than the keys, outside the span, not by rising time, and one of them twice.
+#[test]
+fn a_list_is_what_the_leaves_say() {
+    let [first, second] = [opened(7, 7, &named(9, 500)), opened(3, 3, &named(0, 2))];
+    let pair = opened_node(0, 99, &first, &second);
+    let tree = opened_node(4, 4 + (1 << 40), &pair, &opened_node(7, 3, &second, &first));
+    let list = [entry(9, 500), entry(0, 2), entry(0, 2), entry(9, 500)].concat();
+    assert_eq!(listed(&proof_of_tree(1, &tree)), (accepted(5, 0, 4), list));
+}
+
+/// The keys decide what is opened: equal ones for L, others for N, none that lie off the span. Crossed ones meet a span that holds both.
+#[test]
+fn the_keys_that_a_span_meets() {
+    let leaf = |key| opened(key, key, &named(1, key));
+    let closed = |tree: Opened| Opened { strings: Vec::new(), ..tree };
+    let mut expected = Vec::new();
+    let mut tree = leaf(5);
+    expected.push(5);
+    for key in [3, 7, 2, 8, 0, u64::MAX] {
+        let inside = (3..=7).contains(&key);
+        let other = if inside { leaf(key) } else { closed(leaf(key)) };
+        tree = opened_node(2, 6, &other, &tree);
+        if inside {
+            expected.insert(0, key);
+        }
+    }
+    let list: Vec<u8> = expected.iter().flat_map(|key| entry(1, *key)).collect();
+    assert_eq!(listed(&proof_of_tree(1, &tree)), (accepted(5, 0, 3), list));
+    for (least, greatest) in [(8, 9), (0, 2), (8, 2), (8, 5), (5, 2)] {
+        let off = closed(Opened { known: known(least, greatest, b"N"), strings: Vec::new() });
+        assert_eq!(listed(&proof_of_tree(1, &off)).0, accepted(5, 0, 0));
+        let below = opened_node(3, 4, &off, &off);
+        assert_eq!(listed(&proof_of_tree(1, &below)).0, accepted(5, 0, 0));
+    }
+    let crossed = Opened { known: known(7, 3, b"N"), strings: Vec::new() };
+    assert_eq!(listed(&proof_of_tree(1, &crossed)).0, refused(15, 122));
+}
+
+/// A tree with that many N strings down to a subtree, which stands on the right.
+fn chain(nodes: usize, last: &Opened) -> Opened {
+    let off = Opened { known: known(0, 0, b""), strings: Vec::new() };
+    (0..nodes).fold(last.clone(), |tree, _| opened_node(0, 9, &off, &tree))
+}
+
+/// Sixteen N strings on a path are the most; below them an L is due where the keys are equal, and else no letter.
+#[test]
+fn the_seventeenth_n() {
+    let l = opened(5, 5, &named(1, 5));
+    for nodes in [0, 1, 15, 16] {
+        assert_eq!(listed(&proof_of_tree(1, &chain(nodes, &l))), (accepted(5, 0, 1), entry(1, 5)));
+    }
+    let start = 122 + 16 * 97;
+    assert_eq!(listed(&proof_of_tree(1, &chain(17, &l))).0, refused(16, start));
+    let Fitting { commitment, answer } = proof_of_tree(1, &chain(17, &l));
+    assert_eq!(check(between(1, 3, 7), &commitment, &answer[..start]), refused(15, start));
+    for letter in 0..=255 {
+        assert_eq!(check(between(1, 3, 7), &commitment, &[&answer[..start], &[letter]].concat()), refused(16, start));
+    }
+    // On a path that the span does not meet there may be any number.
+    assert_eq!(check(between(1, 10, 12), &commitment, &answer[..122]), accepted(5, 0, 0));
+    // In another direction too.
+    assert_eq!(check(ask(0, 1, 5), &commitment, &answer), accepted(3, 5, 0));
+}
+
+#[test]
+fn as_many_leaves_as_there_can_be() {
+    let l = named(1, 5);
+    let fitting = proof_of_tree(1, &full_tree(16, &l));
+    let (checked, list) = listed(&fitting);
+    assert_eq!((checked, list), (accepted(5, 0, 65_536), entry(1, 5).repeat(65_536)));
+    let short = list_with(between(1, 3, 7), &fitting.commitment, &fitting.answer, 0, 12 * 65_536 - 1);
+    assert_eq!(short.0, refused(13, 0));
+    let more = [&fitting.answer[..], b"L"].concat();
+    assert_eq!(list_with(between(1, 3, 7), &fitting.commitment, &more, 0, 0).0, refused(18, fitting.answer.len()));
+}
+
 #[test]
 fn both_edges_of_one_record_from_one_start() {
     // V with equal positions: in O the temporal part goes first.
@@ -166,14 +256,17 @@ fn both_edges_of_one_record_from_one_start() {
 fn generated_forgeries() {
     let mut random = Random::new(10);
     let mut seen = [0; 25];
-    let mut verdicts = [[0; 5]; DIRECTIONS as usize];
+    let mut deep = 0;
+    let mut verdicts = [[0; 6]; DIRECTIONS as usize];
     for _ in 0..40_000 {
         let forged = forged(&mut random);
         let checked = check_with(forged.question, &forged.commitment, &forged.answer, 128 * 6);
         seen[checked.number as usize] += 1;
         verdicts[forged.question.direction as usize][checked.verdict as usize] += 1;
-        // The proof strings always fit; the trace decides.
-        assert!(matches!(checked.number, 0 | 15 | 19..=24), "{checked:?}");
+        // The proof strings always fit, but for a seventeenth N; the trace decides.
+        let is_span = forged.question.direction == BETWEEN;
+        assert!(matches!((is_span, checked.number), (false, 0 | 15 | 19..=24) | (true, 0 | 16)), "{checked:?}");
+        deep += usize::from(checked.number == 16);
         let bytes = damaged_answer(&mut random, &forged.answer);
         let damaged = check_with(forged.question, &forged.commitment, &bytes, 128 * 6);
         seen[damaged.number as usize] += 1;
@@ -182,7 +275,12 @@ fn generated_forgeries() {
         assert!(seen[number] > 20, "row {number}: {seen:?}");
     }
     for (direction, seen) in verdicts.iter().enumerate() {
-        let stop = if direction < 3 { NOT_YET } else { NONE_SO_LATE };
-        assert!([1, stop, FOUND].into_iter().all(|verdict| seen[verdict as usize] > 500), "{direction}: {seen:?}");
+        let due: &[usize] = match direction {
+            0..3 => &[1, 2, 3],
+            3..6 => &[1, 3, 4],
+            _ => &[1, 5],
+        };
+        assert!(due.iter().all(|verdict| seen[*verdict] > 500), "{direction}: {seen:?}");
     }
+    assert!(deep > 50, "{deep}");
 }

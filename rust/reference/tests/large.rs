@@ -6,6 +6,7 @@ use common::*;
 use reference::log::{write, Record};
 use reference::random::{overlong_log, records_of_length, Random};
 use reference::sample::{births, in_turn, one_source};
+use reference::host::Host;
 use reference::{Question, Written};
 
 const MOST: usize = 65_535;
@@ -49,6 +50,24 @@ fn alternating() {
     round_trip(&log, ask(1, 1, u64::MAX), MOST as u64);
     round_trip(&log, ask(4, 1, MOST as u64 - 1), MOST as u64);
     round_trip(&log, ask(5, 0, 0), MOST as u64 - 1);
+}
+
+/// All versions of an entity that has as many as one can have, all but the first and the last, one, and none.
+#[test]
+fn long_lists() {
+    let records = one_source(MOST);
+    let (log, host, last) = (write(&records), Host::new(&records), MOST as u64 - 1);
+    for (from, until, number) in
+        [(0, u64::MAX, MOST - 1), (1, last, MOST - 1), (2, last - 1, MOST - 3), (30_000, 30_000, 1), (last + 1, u64::MAX, 0)]
+    {
+        let q = between(1, from, until);
+        let (written, bytes) = answer_with(q, &log, 128 * MOST, 174 * MOST);
+        assert_eq!(written.number, 0);
+        let list: Vec<u8> = (from.max(1)..=until.min(last)).flat_map(|time| entry(1, time)).collect();
+        let given = list_with(q, &host.commitment(), &bytes, 0, 12 * number);
+        assert_eq!(given.0, accepted(5, 0, number as u64));
+        assert!(given.1 == list && reference::list(&host.versions_between(&q).expect("an entity")) == list);
+    }
 }
 
 #[test]

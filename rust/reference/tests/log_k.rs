@@ -135,6 +135,47 @@ fn looking_ahead() {
     }
 }
 
+/// The versions of a span, each an entity and a time.
+fn listed(q: Question, length: usize, path: &str, versions: &[(u32, u64)]) {
+    let answer = answer(q, &log_k());
+    assert_eq!(answer.len(), length);
+    assert_eq!(letters(&answer), path);
+    let commitment = from_hex(COMMITMENT);
+    let list: Vec<u8> = versions.iter().flat_map(|(entity, time)| entry(*entity, *time)).collect();
+    let verdict = accepted(5, 0, versions.len() as u64);
+    for more in [0, 1, 12] {
+        assert_eq!(list_with(q, &commitment, &answer, 0, list.len() + more), (verdict, list.clone()));
+    }
+    for less in 1..=list.len() {
+        assert_eq!(list_with(q, &commitment, &answer, 0, list.len() - less).0, refused(13, 0));
+    }
+    assert_eq!(common::records(q, &commitment, &answer), Part { start: 0, length: 0 });
+}
+
+#[test]
+fn all_versions_between_two_times() {
+    listed(between(1, 10, 40), 470, "RPGNLL", &[(1, 10), (1, 40)]);
+    listed(between(1, 0, u64::MAX), 470, "RPGNLL", &[(1, 10), (1, 40)]);
+    listed(between(1, 11, 40), 393, "RPGNL", &[(1, 40)]);
+    listed(between(1, 10, 39), 393, "RPGNL", &[(1, 10)]);
+    listed(between(2, 20, 29), 393, "RPGNL", &[(2, 20)]);
+    listed(between(2, 30, 30), 393, "RPGNL", &[(2, 30)]);
+    // a span in a gap opens N, and one outside all keys nothing below G
+    listed(between(2, 21, 29), 316, "RPGN", &[]);
+    listed(between(2, 25, 25), 316, "RPGN", &[]);
+    listed(between(2, 31, 99), 219, "RPG", &[]);
+    listed(between(2, 0, 19), 219, "RPG", &[]);
+    listed(between(2, u64::MAX, u64::MAX), 219, "RPG", &[]);
+    for (from, until) in [(0, 0), (0, u64::MAX), (u64::MAX, u64::MAX)] {
+        stopped(between(3, from, until), &log_k(), 65, "R", 1, 0);
+        stopped(between(3, from, until), &[birth(1, 10), birth(5, 20)].concat(), 162, "RP", 1, 0);
+    }
+    // one version: its L stands right below G
+    let one = birth(7, 5);
+    assert_eq!(letters(&common::answer(between(7, 5, 5), &one)), "RGL");
+    assert_eq!(letters(&common::answer(between(7, 0, 4), &one)), "RG");
+}
+
 /// The least and the greatest time that a question or a version can have.
 #[test]
 fn ends_of_time() {
@@ -188,9 +229,8 @@ fn work_area() {
     let three = [birth(1, 10), birth(2, 20), flow(1, 2, 7, 30)].concat();
     assert_eq!(commit_with(&three, 384, 32).0, Outcome { number: 0, position: 0 });
     assert_eq!(commit_with(&three, 383, 32).0, Outcome { number: 12, position: 0 });
-    for direction in 0..6 {
-        for entity in [1, 9] {
-            let q = ask(direction, entity, 35);
+    for entity in [1, 9] {
+        for q in (0..6).map(|direction| ask(direction, entity, 35)).chain([between(entity, 0, 35)]) {
             assert_eq!(answer_with(q, &three, 384, 9000).0.number, 0);
             let refusal = Written { number: 12, position: 0, length: 0 };
             assert_eq!(answer_with(q, &three, 383, 9000).0, refusal);

@@ -4,16 +4,17 @@ mod common;
 
 use common::oracle::Oracle;
 use common::*;
+use reference::host::Host;
 use reference::log::write;
-use reference::random::{damaged_answer, question, sound_records, Random};
-use reference::sample::questions;
-use reference::{Part, DIRECTIONS};
+use reference::random::{damaged_answer, known_question, sound_records, Random};
+use reference::sample::{questions, spans};
+use reference::{Part, BETWEEN};
 
 /// Every question that the log can tell apart: defined answer, verdict and records.
 #[test]
 fn all_questions_of_small_logs() {
     let mut random = Random::new(4);
-    let mut verdicts = [[0; 5]; DIRECTIONS as usize];
+    let mut verdicts = [[0; 5]; BETWEEN as usize];
     for _ in 0..250 {
         let sound = sound_records(&mut random, 11);
         let log = write(&sound);
@@ -47,6 +48,39 @@ fn all_questions_of_small_logs() {
     }
 }
 
+/// Every span that the log can tell apart: defined answer, list and number, and the output that they need.
+#[test]
+fn all_spans_of_small_logs() {
+    let mut random = Random::new(14);
+    let mut numbers = [0; 6];
+    let mut unknown = 0;
+    for _ in 0..60 {
+        let sound = sound_records(&mut random, 9);
+        let log = write(&sound);
+        let oracle = Oracle::new(&log);
+        let host = Host::new(&sound);
+        let commitment = commit(&log);
+        for q in spans(&sound) {
+            let bytes = answer(q, &log);
+            assert_eq!(bytes, oracle.answer(&q), "{q:?}");
+            let (verdict, _, count) = oracle.verdict(&q);
+            let list: Vec<u8> = oracle.list(&q).iter().flat_map(|version| entry(version.0, version.1)).collect();
+            assert_eq!(list_with(q, &commitment, &bytes, 0, list.len()), (accepted(verdict, 0, count), list.clone()), "{q:?}");
+            let names = host.versions_between(&q);
+            assert_eq!((names.is_some(), reference::list(&names.unwrap_or_default())), (verdict == 5, list.clone()));
+            if !list.is_empty() {
+                assert_eq!(list_with(q, &commitment, &bytes, 0, list.len() - 1).0, refused(13, 0));
+            }
+            assert_eq!(records(q, &commitment, &bytes), Part::default());
+            match verdict {
+                5 => numbers[5.min(count as usize)] += 1,
+                _ => unknown += 1,
+            }
+        }
+    }
+    assert!(numbers.iter().all(|times| *times > 100) && unknown > 1000, "{numbers:?} {unknown}");
+}
+
 /// An answer to another question, or of another log, is refused or is the defined one.
 #[test]
 fn answers_do_not_pass_for_other_questions() {
@@ -56,10 +90,8 @@ fn answers_do_not_pass_for_other_questions() {
         let records = sound_records(&mut random, 10);
         let log = write(&records);
         let commitment = commit(&log);
-        let mut asked = question(&mut random, &records);
-        let mut other = question(&mut random, &records);
-        asked.direction %= DIRECTIONS;
-        other.direction %= DIRECTIONS;
+        let asked = known_question(&mut random, &records);
+        let other = known_question(&mut random, &records);
         let bytes = answer(other, &log);
         let checked = check(asked, &commitment, &bytes);
         assert_eq!(checked.number == 0, bytes == answer(asked, &log));
@@ -108,7 +140,8 @@ fn damaged_answers_of_log_k() {
     let all = |good: u8, _: usize| (0..=255).filter(|&value| value != good).collect();
     let before = [ask(1, 2, 35), ask(2, 1, 39), ask(2, 2, 20), ask(0, 2, 19), ask(1, 3, 9), ask(0, 1, 12)];
     let after = [ask(4, 2, 21), ask(5, 2, 21), ask(5, 2, 20), ask(3, 2, 31), ask(4, 3, 9), ask(3, 1, 12)];
-    for q in before.into_iter().chain(after) {
+    let spans = [between(1, 10, 40), between(2, 21, 30), between(2, 21, 29), between(2, 31, 99), between(3, 0, 99)];
+    for q in before.into_iter().chain(after).chain(spans) {
         damage_all(&log_k(), q, all);
     }
 }
@@ -118,8 +151,7 @@ fn damaged_answers_of_random_logs() {
     let mut random = Random::new(6);
     for round in 0..150 {
         let records = sound_records(&mut random, 9);
-        let mut q = question(&mut random, &records);
-        q.direction %= DIRECTIONS;
+        let q = known_question(&mut random, &records);
         let bits = move |good: u8, place: usize| vec![good ^ 1 << ((place + round) % 8), !good];
         damage_all(&write(&records), q, bits);
     }
@@ -133,8 +165,7 @@ fn any_other_bytes_are_refused() {
         let records = sound_records(&mut random, 12);
         let log = write(&records);
         let commitment = commit(&log);
-        let mut q = question(&mut random, &records);
-        q.direction %= DIRECTIONS;
+        let q = known_question(&mut random, &records);
         let good = answer(q, &log);
         for _ in 0..40 {
             let bytes = damaged_answer(&mut random, &good);

@@ -73,12 +73,26 @@ fn generated_faults() {
     assert!((0..20).any(|_| log_with_fault(&mut random, &records, 4).is_some()));
 }
 
+/// 25 before the log.
+#[test]
+fn answer_25() {
+    let k = log_k();
+    let out = |number| Written { number, position: 0, length: 0 };
+    for (from, until) in [(1, 0), (41, 40), (u64::MAX, 0), (u64::MAX, u64::MAX - 1)] {
+        assert_eq!(answer_with(between(1, from, until), &[], 0, 0).0, out(25));
+        assert_eq!(answer_with(between(1, from, until), &k, ROOM, 900).0, out(25));
+        assert_eq!(answer_with(between(9, from, until), &k, ROOM, 900).0, out(25));
+    }
+    assert_eq!(answer_with(between(1, 10, 10), &[], 0, 0).0, out(1));
+    assert_eq!(answer_with(between(1, 10, 10), &k, 511, 0).0, out(12));
+}
+
 #[test]
 fn commitment_and_answer_rows() {
     let k = log_k();
     let out = |number| Written { number, position: 0, length: 0 };
     // 11 before the log, the log before 12, 12 before 13.
-    for direction in 6..=255 {
+    for direction in 7..=255 {
         assert_eq!(answer_with(ask(direction, 1, 10), &[], 0, 0).0, out(11));
         assert_eq!(answer_with(ask(direction, 1, 10), &k, ROOM, 900).0, out(11));
     }
@@ -96,6 +110,9 @@ fn commitment_and_answer_rows() {
         (ask(4, 2, 21), 446),
         (ask(5, 2, 21), 429),
         (ask(3, 2, 31), 219),
+        (between(1, 10, 40), 470),
+        (between(2, 31, 99), 219),
+        (between(3, 0, 0), 65),
     ] {
         assert_eq!(answer_with(q, &k, 512, length - 1).0, out(13));
         let written = answer_with(q, &k, 512, length).0;
@@ -154,7 +171,7 @@ impl Case {
 #[test]
 fn check_11_and_14() {
     let case = backward();
-    for direction in 6..=255 {
+    for direction in 7..=255 {
         assert_eq!(check_with(ask(direction, 2, 35), &[], &[], 0), refused(11, 0));
         assert_eq!(check(ask(direction, 2, 35), &case.commitment, &case.proof), refused(11, 0));
     }
@@ -164,8 +181,106 @@ fn check_11_and_14() {
             assert_eq!(check_with(ask(direction, 2, 35), &commitment, &[], 0), refused(14, 0));
             assert_eq!(check(ask(direction, 2, 35), &commitment, &case.proof), refused(14, 0));
         }
+        assert_eq!(check_with(between(2, 35, 35), &commitment, &[], 0), refused(14, 0));
     }
     assert_eq!(check(ask(0, 2, 35), &[0; 32], &case.proof), refused(17, 0));
+}
+
+/// 25 before 14, and only where the first time is above the second.
+#[test]
+fn check_25() {
+    let case = backward();
+    for (from, until) in [(35, 34), (1, 0), (u64::MAX, 0), (u64::MAX, u64::MAX - 1)] {
+        assert_eq!(check_with(between(2, from, until), &[], &[], 0), refused(25, 0));
+        assert_eq!(check(between(2, from, until), &case.commitment, &case.proof), refused(25, 0));
+        assert_eq!(records(between(2, from, until), &case.commitment, &case.proof).length, 0);
+    }
+    for (from, until) in [(0, 0), (0, 1), (35, 35), (u64::MAX, u64::MAX)] {
+        assert_eq!(check_with(between(2, from, until), &[], &[], 0), refused(14, 0));
+    }
+}
+
+/// Outside direction 6 the later time and the output have no effect.
+#[test]
+fn until_outside_direction_6() {
+    let k = log_k();
+    for direction in 0..6 {
+        let q = ask(direction, 2, 25);
+        let good = answer(q, &k);
+        let checked = check(q, &commit(&k), &good);
+        assert_eq!(checked.verdict, 3);
+        for until in [0, 24, 25, 26, u64::MAX] {
+            let other = Question { until, ..q };
+            assert_eq!(answer(other, &k), good);
+            for out in [0, 11, 12, 100] {
+                assert_eq!(list_with(other, &commit(&k), &good, ROOM, out), (checked, vec![]));
+            }
+            assert_eq!(records(other, &commit(&k), &good), records(q, &commit(&k), &good));
+        }
+    }
+}
+
+/// 1 between 10 and 40, which opens R 0, P 65, G 162, N 219, L 316, L 393, and has 470 bytes.
+const SPAN: Question = Question::between(1, 10, 40);
+
+/// The check of bytes as an answer to it meets a row before 13, whatever the output.
+fn span_meets(bytes: &[u8], number: u64, position: usize) {
+    for out in [0, 23, 24, 100] {
+        assert_eq!(list_with(SPAN, &commit(&log_k()), bytes, 0, out).0, refused(number, position));
+    }
+}
+
+#[test]
+fn strings_of_a_span() {
+    let good = answer(SPAN, &log_k());
+    for pair in [0usize, 65, 162, 219, 316, 393, 470].windows(2) {
+        for place in pair[0]..pair[1] {
+            let mut bytes = good.clone();
+            bytes[place] ^= 0x20;
+            span_meets(&bytes, if place == pair[0] { 16 } else { 17 }, pair[0]);
+            span_meets(&good[..place], 15, pair[0]);
+            let mut cut = good[..place + 1].to_vec();
+            cut[pair[0]] = b'Q';
+            span_meets(&cut, 16, pair[0]);
+        }
+    }
+    // A version left out, the two exchanged, one twice, a trace.
+    let (top, first, second) = (&good[..316], &good[316..393], &good[393..]);
+    span_meets(&[top, first].concat(), 15, 393);
+    span_meets(&[top, second].concat(), 17, 316);
+    span_meets(&[top, second, first].concat(), 17, 316);
+    span_meets(&[top, first, first].concat(), 17, 393);
+    span_meets(&[top, first, b"B"].concat(), 16, 393);
+    span_meets(&[top, first, b"N"].concat(), 16, 393);
+}
+
+/// 18 before 13, which is last of all. No entity and an empty list need no output.
+#[test]
+fn output_of_a_span() {
+    let (good, commitment) = (answer(SPAN, &log_k()), commit(&log_k()));
+    span_meets(&[&good[..], &[0]].concat(), 18, 470);
+    span_meets(&[&good[..], &good[393..]].concat(), 18, 470);
+    for out in 0..24 {
+        assert_eq!(list_with(SPAN, &commitment, &good, 0, out).0, refused(13, 0));
+    }
+    assert_eq!(list_with(SPAN, &commitment, &good, 0, 24), (accepted(5, 0, 2), [entry(1, 10), entry(1, 40)].concat()));
+    assert_eq!(list_with(between(3, 0, 9), &commitment, &good[..65], 0, 0).0, accepted(1, 0, 0));
+    assert_eq!(list_with(between(1, 41, 99), &commitment, &good[..219], 0, 0).0, accepted(5, 0, 0));
+    assert_eq!(list_with(between(1, 41, 99), &commitment, &good, 0, 0).0, refused(18, 219));
+}
+
+/// The answer of a part of the span is not the span's, nor the other way round.
+#[test]
+fn parts_of_a_span() {
+    let (good, commitment) = (answer(SPAN, &log_k()), commit(&log_k()));
+    for (part, as_whole, whole_as_part) in [
+        (between(1, 10, 39), refused(15, 393), refused(18, 393)),
+        (between(1, 11, 40), refused(17, 316), refused(17, 316)),
+        (between(1, 11, 39), refused(15, 316), refused(18, 316)),
+    ] {
+        assert_eq!(check(SPAN, &commitment, &answer(part, &log_k())), as_whole);
+        assert_eq!(check(part, &commitment, &good), whole_as_part);
+    }
 }
 
 #[test]

@@ -4,13 +4,13 @@
 //! it is the true one, and else why it is refused. The calls here give what a caller needs of a result; those of [`plain`] give all of it, and
 //! take any number for a direction.
 //!
-//! No call takes memory from the heap: the caller lends it, as [`work_area`], [`work_for`] and [`most_answer`] say how much, and a call keeps
-//! nothing. Every call ends, whatever bytes it is given, and takes the stack that [`stack`] says.
+//! No call takes memory from the heap: the caller lends it, as [`work_area`], [`work_for`], [`list_for`] and [`most_answer`] say how much, and a
+//! call keeps nothing. Every call ends, whatever bytes it is given, and takes the stack that [`stack`] says.
 //!
 //! # From a log to records
 //!
 //! ```
-//! use viewer::{Direction, Question, Record, Verdict};
+//! use viewer::{Direction, Listed, Question, Record, Span, Verdict, Version};
 //!
 //! fn main() -> Result<(), Box<dyn std::error::Error>> {
 //!     // the log: entities 1 and 2 are born at 10 and 20, then each feeds the other
@@ -53,6 +53,15 @@
 //!     none.truncate(length as usize);
 //!     assert_eq!(viewer::check(&late, &commitment, &none, &mut [])?, Verdict::NoneSoLate { last: 30 });
 //!
+//!     // all versions of entity 1 from 10 to 40: an answer to a span is checked into a list, and takes no work area
+//!     let span = Span { entity: 1, from: 10, until: 40 };
+//!     let mut all = vec![0; viewer::most_span_answer(records)];
+//!     let length = viewer::answer_span(&span, &log, &mut viewer::work_area(records), &mut all)?;
+//!     all.truncate(length as usize);
+//!     let mut list = viewer::list_for(&all);
+//!     let Listed::Versions(versions) = viewer::check_span(&span, &commitment, &all, &mut list)? else { panic!("1 is in the log") };
+//!     assert!(versions.eq([Version { entity: 1, time: 10 }, Version { entity: 1, time: 40 }]));
+//!
 //!     // a changed answer is refused
 //!     answer[437] ^= 1;
 //!     let refusal = viewer::checked(&question, &commitment, &answer, &mut work).unwrap_err();
@@ -67,13 +76,15 @@ mod record;
 mod refusal;
 mod room;
 pub mod stack;
+mod version;
 
-pub use question::{Direction, Question, Relation, UnknownDirection, Way, DIRECTIONS};
+pub use question::{Direction, Question, Relation, Span, UnknownDirection, Way, DIRECTIONS};
 pub use record::{Edge, Record, Records};
 pub use refusal::Refusal;
-pub use room::{most_answer, work_area, work_for, work_length, DIGEST, MOST_LISTING, MOST_RECORDS};
+pub use room::{list_for, most_answer, most_span_answer, work_area, work_for, work_length, DIGEST, MOST_LISTING, MOST_RECORDS};
+pub use version::{Version, Versions};
 
-/// What an accepted answer says.
+/// What an accepted answer to a [`Question`] says.
 #[derive(Clone, Copy, Debug, PartialEq, Eq, Hash)]
 pub enum Verdict {
     /// No version of the entity.
@@ -84,6 +95,15 @@ pub enum Verdict {
     NoneSoLate { last: u64 },
     /// The version's time, and the number of its trace's records, 0 without a trace.
     Found { time: u64, count: u64 },
+}
+
+/// What an accepted answer to a [`Span`] says.
+#[derive(Clone, Debug)]
+pub enum Listed<'a> {
+    /// No version of the entity.
+    NoEntity,
+    /// All versions of the entity in the span; there may be none.
+    Versions(Versions<'a>),
 }
 
 fn accepted(outcome: plain::Outcome) -> Result<(), Refusal> {
@@ -135,21 +155,42 @@ pub fn commitment(log: &[u8], work: &mut [u8], out: &mut [u8]) -> Result<(), Ref
 ///
 /// Takes at most [`stack::ANSWER`] bytes of stack, 264 KiB, as measured.
 pub fn answer(question: &Question, log: &[u8], work: &mut [u8], out: &mut [u8]) -> Result<u64, Refusal> {
-    counted(plain::answer(question.direction.number(), question.entity, question.time, log, work, out))
+    counted(plain::answer(question.direction.number(), question.entity, question.time, 0, log, work, out))
+}
+
+/// Writes the answer to a span, as [`answer`] does, with row 25 before all others. Its length is at most [`most_span_answer`].
+///
+/// Takes at most [`stack::ANSWER`] bytes of stack, 264 KiB, as measured.
+pub fn answer_span(span: &Span, log: &[u8], work: &mut [u8], out: &mut [u8]) -> Result<u64, Refusal> {
+    counted(plain::answer(Span::DIRECTION, span.entity, span.from, span.until, log, work, out))
 }
 
 /// Checks an answer against a commitment: the verdict, if the answer is accepted; else the row of 12 and 14 to 24 that it meets. The
 /// work area takes 128 bytes a record of the trace ([`work_for`]), and is all zero afterwards.
 ///
-/// Takes at most [`stack::CHECK`] bytes of stack, 3 KiB, as measured.
+/// Takes at most [`stack::CHECK`] bytes of stack, 5 KiB, as measured.
 pub fn check(question: &Question, commitment: &[u8], answer: &[u8], work: &mut [u8]) -> Result<Verdict, Refusal> {
-    let checked = plain::check(question.direction.number(), question.entity, question.time, commitment, answer, work);
+    let checked = plain::check(question.direction.number(), question.entity, question.time, 0, commitment, answer, work, &mut []);
     match (checked.number, checked.verdict) {
         (0, 1) => Ok(Verdict::NoEntity),
         (0, 2) => Ok(Verdict::NotYet { first: checked.time }),
         (0, 3) => Ok(Verdict::Found { time: checked.time, count: checked.count }),
         (0, 4) => Ok(Verdict::NoneSoLate { last: checked.time }),
-        (0, verdict) => unreachable!("there is no verdict {verdict}"),
+        (0, verdict) => unreachable!("no question has the verdict {verdict}"),
+        (number, _) => Err(Refusal { number, position: checked.position }),
+    }
+}
+
+/// Checks an answer to a span against a commitment: if it is accepted, the list of versions, which is written to the first bytes of `out`; else
+/// the row of 13 to 18 and 25 that it meets, and `out` stays as it was. The list takes 12 bytes a version ([`list_for`]), and no work area.
+///
+/// Takes at most [`stack::CHECK`] bytes of stack, 5 KiB, as measured.
+pub fn check_span<'a>(span: &Span, commitment: &[u8], answer: &[u8], out: &'a mut [u8]) -> Result<Listed<'a>, Refusal> {
+    let checked = plain::check(Span::DIRECTION, span.entity, span.from, span.until, commitment, answer, &mut [], out);
+    match (checked.number, checked.verdict) {
+        (0, 1) => Ok(Listed::NoEntity),
+        (0, 5) => Ok(Listed::Versions(Versions::new(&out[..room::VERSION * checked.count as usize]))),
+        (0, verdict) => unreachable!("no span has the verdict {verdict}"),
         (number, _) => Err(Refusal { number, position: checked.position }),
     }
 }
@@ -159,7 +200,7 @@ pub fn check(question: &Question, commitment: &[u8], answer: &[u8], work: &mut [
 ///
 /// Takes at most [`stack::RECORDS`] bytes of stack, 3 KiB, as measured.
 pub fn records<'a>(question: &Question, commitment: &[u8], answer: &'a [u8], work: &mut [u8]) -> &'a [u8] {
-    let part = plain::records(question.direction.number(), question.entity, question.time, commitment, answer, work);
+    let part = plain::records(question.direction.number(), question.entity, question.time, 0, commitment, answer, work);
     &answer[part.start as usize..][..part.length as usize]
 }
 
@@ -173,7 +214,7 @@ pub struct Checked<'a> {
 /// Checks an answer as [`check`] does, and gives the verdict and the checked records together. The verdict is what the exported check gives, and
 /// the records are where the exported call of that name says; so an answer with a trace is checked twice, which takes twice as long.
 ///
-/// Takes at most the stack of [`check`] or of [`records`], 3 KiB, as measured.
+/// Takes at most the stack of [`check`] or of [`records`], 5 KiB, as measured.
 pub fn checked<'a>(question: &Question, commitment: &[u8], answer: &'a [u8], work: &mut [u8]) -> Result<Checked<'a>, Refusal> {
     let verdict = check(question, commitment, answer, work)?;
     let records = match verdict {

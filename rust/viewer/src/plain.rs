@@ -21,7 +21,7 @@ pub struct Written {
 }
 
 /// The same, with the verdict: 0 refused, 1 no entity, 2 not yet, with the entity's first time, 3 found, with the version's time and the
-/// count of records, 4 none so late, with the entity's last time.
+/// count of records, 4 none so late, with the entity's last time, 5 listed, with the count of versions in the list.
 #[repr(C)]
 #[derive(Clone, Copy, Debug, PartialEq, Eq)]
 pub struct Checked {
@@ -57,17 +57,21 @@ extern "C" {
         direction: u8,
         entity: u32,
         time: u64,
+        until: u64,
         commitment: *const u8,
         commitment_len: usize,
         answer: *const u8,
         answer_len: usize,
         work: *mut u8,
         work_len: usize,
+        out: *mut u8,
+        out_len: usize,
     ) -> Checked;
     fn bozhtagul_records(
         direction: u8,
         entity: u32,
         time: u64,
+        until: u64,
         commitment: *const u8,
         commitment_len: usize,
         answer: *const u8,
@@ -79,6 +83,7 @@ extern "C" {
         direction: u8,
         entity: u32,
         time: u64,
+        until: u64,
         log: *const u8,
         log_len: usize,
         work: *mut u8,
@@ -111,14 +116,27 @@ pub fn commitment(log: &[u8], work: &mut [u8], out: &mut [u8]) -> Outcome {
     lend!(bozhtagul_commitment, [], [log], [work, out])
 }
 
-pub fn answer(direction: u8, entity: u32, time: u64, log: &[u8], work: &mut [u8], out: &mut [u8]) -> Written {
-    lend!(bozhtagul_answer, [direction, entity, time], [log], [work, out])
+/// `until` is the later end of a span, and without effect outside direction 6.
+pub fn answer(direction: u8, entity: u32, time: u64, until: u64, log: &[u8], work: &mut [u8], out: &mut [u8]) -> Written {
+    lend!(bozhtagul_answer, [direction, entity, time, until], [log], [work, out])
 }
 
-pub fn check(direction: u8, entity: u32, time: u64, commitment: &[u8], answer: &[u8], work: &mut [u8]) -> Checked {
-    lend!(bozhtagul_check, [direction, entity, time], [commitment, answer], [work])
+/// `until` is as for [`answer`]. The list is written to `out`, which stays as it was outside direction 6.
+#[allow(clippy::too_many_arguments)]
+pub fn check(
+    direction: u8,
+    entity: u32,
+    time: u64,
+    until: u64,
+    commitment: &[u8],
+    answer: &[u8],
+    work: &mut [u8],
+    out: &mut [u8],
+) -> Checked {
+    lend!(bozhtagul_check, [direction, entity, time, until], [commitment, answer], [work, out])
 }
 
-pub fn records(direction: u8, entity: u32, time: u64, commitment: &[u8], answer: &[u8], work: &mut [u8]) -> Part {
-    lend!(bozhtagul_records, [direction, entity, time], [commitment, answer], [work])
+/// `until` is as for [`answer`].
+pub fn records(direction: u8, entity: u32, time: u64, until: u64, commitment: &[u8], answer: &[u8], work: &mut [u8]) -> Part {
+    lend!(bozhtagul_records, [direction, entity, time, until], [commitment, answer], [work])
 }

@@ -4,11 +4,9 @@ use std::error::Error;
 use std::fmt;
 use std::str::FromStr;
 
-use crate::Refusal;
-
 /// Which version a question seeks, and which way it looks from there: the [`Relation`] and the [`Way`] in one. Each direction has one value, so
-/// equal questions are equal and have one hash value; a number that is no direction is turned away where it is converted, and a call on any
-/// number at all is in [`plain`](crate::plain).
+/// equal questions are equal and have one hash value; a number that is none of these is turned away where it is converted, and a call on any
+/// number at all is in [`plain`](crate::plain). Direction 6, which seeks all versions between two times, has a type of its own, [`Span`].
 #[derive(Clone, Copy, Debug, PartialEq, Eq, Hash)]
 pub enum Direction {
     VersionOnly = 0,
@@ -37,7 +35,7 @@ pub enum Way {
     Forward,
 }
 
-/// All directions, by rising number.
+/// All directions that seek one version, by rising number.
 pub const DIRECTIONS: [Direction; 6] = [
     Direction::VersionOnly,
     Direction::Backward,
@@ -88,12 +86,12 @@ impl From<Direction> for u8 {
     }
 }
 
-/// A number above 5 is row 11 at 0, as it is for every call that is asked.
+/// 6 is a [`Span`]'s, and a number above it is row 11 for every call that is asked.
 impl TryFrom<u8> for Direction {
-    type Error = Refusal;
+    type Error = UnknownDirection;
 
-    fn try_from(number: u8) -> Result<Direction, Refusal> {
-        DIRECTIONS.into_iter().find(|direction| direction.number() == number).ok_or(Refusal { number: 11, position: 0 })
+    fn try_from(number: u8) -> Result<Direction, UnknownDirection> {
+        DIRECTIONS.into_iter().find(|direction| direction.number() == number).ok_or(UnknownDirection)
     }
 }
 
@@ -114,7 +112,7 @@ impl FromStr for Direction {
     }
 }
 
-/// A text that is no direction.
+/// A text or a number that is no direction of a question for one version.
 #[derive(Clone, Copy, Debug, PartialEq, Eq, Hash)]
 pub struct UnknownDirection;
 
@@ -136,6 +134,21 @@ pub struct Question {
     pub time: u64,
 }
 
+/// All versions of the entity between two times, ends included: direction 6. Where `from` is above `until`, every call meets row 25.
+#[derive(Clone, Copy, Debug, PartialEq, Eq, Hash)]
+pub struct Span {
+    pub entity: u32,
+    pub from: u64,
+    pub until: u64,
+}
+
+impl Span {
+    /// The direction as a question's first number.
+    pub const DIRECTION: u8 = 6;
+    /// The direction's word, beside those of [`Direction`].
+    pub const WORD: &'static str = "between";
+}
+
 #[cfg(test)]
 mod tests {
     use super::*;
@@ -146,9 +159,10 @@ mod tests {
         for number in 0..=255 {
             match Direction::try_from(number) {
                 Ok(direction) => assert_eq!((number < 6, u8::from(direction)), (true, number)),
-                Err(refusal) => assert_eq!((number < 6, refusal), (false, Refusal { number: 11, position: 0 })),
+                Err(unknown) => assert_eq!((number < 6, unknown), (false, UnknownDirection)),
             }
         }
+        assert!(DIRECTIONS.iter().all(|direction| direction.number() != Span::DIRECTION && direction.word() != Span::WORD));
     }
 
     #[test]

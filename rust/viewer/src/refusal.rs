@@ -1,17 +1,18 @@
-//! What turns a call away, in the words of document 01's table.
+//! What turns a call away, in the words of document 01's table and of document 02.
 
 use std::error::Error;
 use std::fmt;
 
-/// A row of document 01's table: its number, and the byte position that it returns.
+/// A row of document 01's table, or one that document 02 adds: its number, and the byte position that it returns.
 #[derive(Clone, Copy, Debug, PartialEq, Eq, Hash)]
 pub struct Refusal {
     pub number: u64,
     pub position: u64,
 }
 
-/// Each row's number and cause. Number 10 is not used again (document 02, A10), and number 11 means another direction than it did (A1).
-const CAUSES: [(u64, &str); 23] = [
+/// Each row's number and cause. Number 10 is not used again (document 02, A10), number 11 means another direction than it did (A1 and A2), and
+/// number 25 is A2's.
+const CAUSES: [(u64, &str); 24] = [
     (1, "log empty"),
     (2, "record 65,536 begins"),
     (3, "command unknown"),
@@ -21,7 +22,7 @@ const CAUSES: [(u64, &str); 23] = [
     (7, "flow's source unborn"),
     (8, "destination unborn"),
     (9, "source is destination"),
-    (11, "direction above 5"),
+    (11, "direction above 6"),
     (12, "work area below 128 bytes a record"),
     (13, "output too short for the result"),
     (14, "commitment not 32 bytes"),
@@ -35,6 +36,7 @@ const CAUSES: [(u64, &str); 23] = [
     (22, "backward: record not last, referred to by none"),
     (23, "found version's record differs from L"),
     (24, "its path digest differs from L"),
+    (25, "t1 above t2"),
 ];
 
 impl Refusal {
@@ -75,28 +77,31 @@ mod tests {
     #[test]
     fn every_row_has_the_words_of_the_document() {
         let table = table();
-        assert_eq!(table.len(), CAUSES.len() + 1);
+        assert_eq!(table.len(), 24);
         for (place, (cause, number)) in table.into_iter().enumerate() {
             assert_eq!(number, place as u64 + 1);
             let words = match number {
                 10 => "no row of the table",
-                11 => now_means_a("direction above 5"),
+                11 => "direction above 6",
                 _ => &cause,
             };
             assert_eq!(said(number, 7), format!("refused {number} at 7: {words}"));
         }
+        assert_eq!(CAUSES.len(), 23 + 1);
     }
 
-    /// The words, if request A1 has them for number 11.
-    fn now_means_a(words: &str) -> &str {
+    /// What request A2 says of numbers 25 and 11.
+    #[test]
+    fn the_later_rows_have_the_words_of_their_request() {
         let requests = include_str!("../../../docs/02-change-requests.md");
-        assert!(requests.contains(&format!("Number 11 now means a {words}.")));
-        words
+        assert!(requests.contains("Number 11 now means a direction above 5."));
+        assert!(requests.contains("Errors: 25 at 0, t1 above t2, directly after 11, which from here means above 6."));
+        assert_eq!(said(25, 0), "refused 25 at 0: t1 above t2");
     }
 
     #[test]
     fn a_number_outside_the_table_has_no_words() {
-        for number in [0, 25, u64::MAX] {
+        for number in [0, 10, 26, u64::MAX] {
             assert_eq!(Refusal { number, position: 1 }.cause(), None);
             assert_eq!(said(number, 1), format!("refused {number} at 1: no row of the table"));
         }

@@ -20,6 +20,10 @@ const HEADER: usize = 5;
 const SHORTEST_RECORD: usize = 13;
 const LONGEST_RECORD: usize = 22;
 
+/// The bytes of a version in a list, and the most versions that one can have, which is one more than any log's.
+pub(crate) const VERSION: usize = 12;
+const MOST_LISTED: usize = 65_536;
+
 /// The bytes of work area that so many records need: of the log in `commitment` and `answer`, of the trace in `check`, `records` and `checked`. One less is row 12.
 pub const fn work_length(records: usize) -> usize {
     128 * records
@@ -36,6 +40,11 @@ pub fn work_for(answer: &[u8]) -> Vec<u8> {
     work_area((answer.len() / SHORTEST_RECORD).min(MOST_RECORDS))
 }
 
+/// An output for the list of an answer's check: for as many versions as an answer of its length has room for.
+pub fn list_for(answer: &[u8]) -> Vec<u8> {
+    vec![0; VERSION * (answer.len() / L).min(MOST_LISTED)]
+}
+
 /// The output that `answer` may need: no answer to a question of that direction, about a log of that many records, has more bytes. Without a
 /// trace some log has an answer of this length; with one the bound takes the first record for the shortest and all others for the longest, and
 /// is above what is written by as much as they are shorter. The exact length is what `answer` gives.
@@ -46,6 +55,15 @@ pub fn most_answer(direction: Direction, records: usize) -> usize {
         None => proof,
         Some(_) => proof + HEADER + SHORTEST_RECORD + LONGEST_RECORD * (records - 1),
     }
+}
+
+/// The output that `answer_span` may need: some log of that many records has an answer of this length, and none a longer one. It has all versions
+/// of an entity that has as many as it can, beside one other entity that feeds it.
+pub fn most_span_answer(records: usize) -> usize {
+    let records = records.clamp(1, MOST_RECORDS);
+    let entities = records.min(2);
+    let versions = records + 1 - entities;
+    R + P_OR_N * depth(entities) + G + L * versions + P_OR_N * (versions - 1)
 }
 
 /// The most P and N strings that lead to a version in a log of that many records. So many entities and versions of one of them share one
@@ -63,7 +81,7 @@ fn depth(leaves: usize) -> usize {
 #[cfg(test)]
 mod tests {
     use super::*;
-    use crate::DIRECTIONS;
+    use crate::{Span, DIRECTIONS};
     use reference::host::Host;
     use reference::log::Record;
     use reference::random::{self, Random};
@@ -79,7 +97,7 @@ mod tests {
     #[test]
     fn without_a_trace_the_bound_is_met() {
         for direction in [Direction::VersionOnly, Direction::VersionOnlyAfter] {
-            let asked = Question { direction: direction.number(), entity: 0, time: 0 };
+            let asked = Question::new(direction.number(), 0, 0);
             for records in 1..=70 {
                 let length = |births| Host::new(&births_then_flows(births, records)).answer(&asked).len();
                 let longest = (records.min(2)..=records).map(length).max();
@@ -89,16 +107,37 @@ mod tests {
     }
 
     #[test]
+    fn the_bound_of_a_span_is_met() {
+        let all = Question::between(0, 0, u64::MAX);
+        for records in 1..=70 {
+            let length = |births| Host::new(&births_then_flows(births, records)).answer(&all).len();
+            let longest = (records.min(2)..=records).map(length).max();
+            assert_eq!(longest, Some(most_span_answer(records)), "{records} records");
+        }
+        assert_eq!(most_span_answer(MOST_RECORDS), 65 + 97 + 57 + 77 * 65_534 + 97 * 65_533);
+        assert_eq!(most_span_answer(usize::MAX), most_span_answer(MOST_RECORDS));
+        assert_eq!(most_span_answer(0), most_span_answer(1));
+    }
+
+    #[test]
+    fn a_list_has_12_bytes_a_version() {
+        assert_eq!([0, 76, 77, 153, 154].map(|length| list_for(&vec![0; length]).len()), [0, 0, 12, 12, 24]);
+        assert_eq!(list_for(&vec![0; 77 * 65_537]).len(), 12 * 65_536);
+    }
+
+    #[test]
     fn no_answer_is_longer() {
         let mut random = Random::new(411);
         for round in 0..3_000 {
             let records = random::sound_records(&mut random, 30);
             let host = Host::new(&records);
             for direction in DIRECTIONS {
-                let question = Question { direction: direction.number(), ..random::question(&mut random, &records) };
+                let question = random::question_of(&mut random, &records, direction.number());
                 let (length, most) = (host.answer(&question).len(), most_answer(direction, records.len()));
                 assert!(length <= most, "round {round}: {length} bytes, {question:?}");
             }
+            let span = random::question_of(&mut random, &records, Span::DIRECTION);
+            assert!(host.answer(&span).len() <= most_span_answer(records.len()), "round {round}: {span:?}");
         }
     }
 

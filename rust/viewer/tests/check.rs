@@ -6,9 +6,9 @@ use common::*;
 use reference::host::Host;
 use reference::log::Record;
 use reference::random::{self, Random};
-use reference::sample::{births, in_turn, log_k, one_source, questions};
-use reference::Question;
-use viewer::Verdict;
+use reference::sample::{births, in_turn, log_k, one_source, questions, spans};
+use reference::{Question, Verdict, BETWEEN, DIRECTIONS};
+use viewer::plain;
 
 const MOST: usize = 65_535;
 
@@ -21,7 +21,7 @@ fn every_size(asked: &Asked, met: &mut Met) -> Verdict {
     };
     for work in [128 * records, 128 * records + 1] {
         let checked = asked.check(&asked.defined, work);
-        assert_eq!(checked, Ok(verdict));
+        assert_eq!(checked, Ok(verdict.clone()));
         met.add(&asked.question, &checked);
     }
     if records > 0 {
@@ -39,13 +39,31 @@ fn all_questions(seed: u64, logs: usize, most: usize) {
     for records in sound_logs(seed, logs, most) {
         let host = Host::new(&records);
         for question in questions(&records) {
-            given.add(&question, every_size(&Asked::new(&host, question), &mut met));
+            given.add(&question, &every_size(&Asked::new(&host, question), &mut met));
         }
     }
     for (direction, rows) in [(0, &[0][..]), (1, &[0, 12]), (2, &[0, 12]), (3, &[0]), (4, &[0, 12]), (5, &[0, 12])] {
         met.exactly(direction, 2_000, rows);
     }
-    given.each(700);
+    given.each(0..BETWEEN, 700);
+}
+
+/// Every span of random logs: the list is that of the log's versions in it.
+#[test]
+fn all_spans_of_tiny_logs() {
+    let mut met = Met::default();
+    let mut given = Given::default();
+    for records in sound_logs(44, 60, 7) {
+        let host = Host::new(&records);
+        for question in spans(&records) {
+            let verdict = every_size(&Asked::new(&host, question), &mut met);
+            let due = host.versions_between(&question).map_or(Verdict::NoEntity, Verdict::Listed);
+            assert_eq!(verdict, due, "{question:?}");
+            given.add(&question, &verdict);
+        }
+    }
+    met.exactly(BETWEEN.into(), 2_000, &[0]);
+    given.each(BETWEEN..DIRECTIONS, 2_000);
 }
 
 #[test]
@@ -66,7 +84,7 @@ fn answers_to_other_questions() {
     for _ in 0..30_000 {
         let records = random::sound_records(&mut random, 10);
         let host = Host::new(&records);
-        let mut known = || Question { direction: random::known_direction(&mut random), ..random::question(&mut random, &records) };
+        let mut known = || random::known_question(&mut random, &records);
         let (asked, other) = (Asked::new(&host, known()), Asked::new(&host, known()));
         let checked = asked.check(&other.defined, 1 << 12);
         assert_eq!(checked.is_ok(), asked.defined == other.defined);
@@ -75,22 +93,42 @@ fn answers_to_other_questions() {
         let checked = check(&asked.question, &foreign, &asked.defined, 1 << 12);
         assert_eq!(checked.is_ok(), foreign == asked.commitment);
     }
-    for direction in 0..6 {
-        met.exactly(direction, 100, &[0, 15, 16, 17, 18]);
+    for direction in 0..DIRECTIONS {
+        met.exactly(direction.into(), 100, &[0, 15, 16, 17, 18]);
     }
 }
 
-/// A direction of 0 to 5 is one of the viewer's, and a plain number above is row 11. At a version's own time both relations have one answer.
+/// A plain number as a direction: 1 and 4 have this answer, since at a version's own time both relations have one; a number above 6 is row 11.
 #[test]
 fn every_number_as_a_direction() {
     let asked = Asked::new(&Host::new(&log_k()), ask(1, 2, 30));
     for direction in 0..=255 {
-        let plain = with_work(384, |work| viewer::plain::check(direction, 2, 30, &asked.commitment, &asked.defined, work));
-        let typed = typed(&Question { direction, ..asked.question });
-        let given = typed.and_then(|question| with_work(384, |work| viewer::check(&question, &asked.commitment, &asked.defined, work)));
-        let (number, position) = given.map_or_else(|refusal| (refusal.number, refusal.position), |_| (0, 0));
-        assert_eq!((plain.number, plain.position), (number, position));
-        assert_eq!((direction == 1 || direction == 4, direction > 5), (number == 0, number == 11));
+        let question = Question { direction, until: 30, ..asked.question };
+        let number = check(&question, &asked.commitment, &asked.defined, 384).err().map_or(0, |refusal| refusal.number);
+        assert_eq!((direction == 1 || direction == 4, direction > 6), (number == 0, number == 11));
+    }
+}
+
+/// Outside direction 6 the later time has no effect, also where it stands first, and the output stays as it was.
+#[test]
+fn until_and_output_outside_direction_6() {
+    let host = Host::new(&log_k());
+    for direction in 0..6 {
+        let asked = Asked::new(&host, ask(direction, 2, 25));
+        let call = |until, out: &mut [u8]| {
+            with_work(384, |work| plain::check(direction, 2, 25, until, &asked.commitment, &asked.defined, work, out))
+        };
+        let checked = call(0, &mut []);
+        assert_eq!(checked.verdict, reference::FOUND);
+        let log = reference::log::write(&log_k());
+        for until in [0, 24, 25, u64::MAX] {
+            assert_eq!(with_output(24, |out| (call(until, out), 0)).0, checked);
+            let mut given = vec![0; asked.defined.len()];
+            let written = plain::answer(direction, 2, 25, until, &log, &mut [0; 512], &mut given);
+            assert_eq!((written.number, given), (0, asked.defined.clone()));
+            let part = |until| plain::records(direction, 2, 25, until, &asked.commitment, &asked.defined, &mut [0; 384]);
+            assert_eq!(part(until), part(0));
+        }
     }
 }
 
@@ -101,7 +139,7 @@ fn directions_and_commitments() {
     let mut met = Met::default();
     for direction in 0..=255 {
         for length in 0..=70 {
-            let question = Question { direction, ..asked.question };
+            let question = Question { direction, until: 30, ..asked.question };
             let mut commitment = asked.commitment.to_vec();
             commitment.resize(length, 0);
             let checked = check(&question, &commitment, &asked.defined, 384);
@@ -109,10 +147,10 @@ fn directions_and_commitments() {
             assert_eq!(checked.is_ok(), (direction == 1 || direction == 4) && length == 32);
         }
     }
-    for (direction, row) in [18, 0, 16, 18, 0, 16].into_iter().enumerate() {
+    for (direction, row) in [18, 0, 16, 18, 0, 16, 18].into_iter().enumerate() {
         met.exactly(direction, 1, &[14, row]);
     }
-    met.exactly(UNKNOWN, 250 * 71, &[11]);
+    met.exactly(UNKNOWN, 249 * 71, &[11]);
 }
 
 /// A full history of the most records: accepted with that many records, refused with one byte of work area less, with a kind altered in
@@ -146,6 +184,21 @@ fn the_most_records_forward() {
     full_history(&in_turn(MOST), ask(5, 0, 0), MOST - 1);
     let asked = Asked::new(&Host::new(&births(MOST)), ask(2, 40_000, u64::MAX));
     assert_eq!(asked.check(&asked.defined, 128), found(40_000, 1));
+}
+
+/// The most versions that a log's list can have: accepted, and refused with one of them left out, with the last byte cut off and one more.
+#[test]
+fn the_most_versions_of_a_span() {
+    let asked = Asked::new(&Host::new(&one_source(MOST)), between(1, 0, u64::MAX));
+    let answer = asked.defined.clone();
+    assert!(matches!(asked.check(&answer, 0), Ok(Verdict::Listed(names)) if names.len() == MOST - 1));
+    assert_eq!(asked.check(&[&answer[..], &[0]].concat(), 0), refused(18, answer.len()));
+    assert_eq!(asked.check(&answer[..answer.len() - 1], 0).unwrap_err().number, 15);
+    // R, P and G, then 16 N down to the first two L
+    let second = 65 + 97 + 57 + 16 * 97 + 77;
+    assert_eq!(answer[second], b'L');
+    let without = [&answer[..second], &answer[second + 77..]].concat();
+    assert_eq!(asked.check(&without, 0), refused(16, second));
 }
 
 #[test]

@@ -5,7 +5,7 @@ mod common;
 
 use common::*;
 use reference::edit::{any_count, edit, edit_letter};
-use reference::forge::{records_of, trace_with_count};
+use reference::forge::{pieces, records_of, trace_with_count};
 use reference::host::Host;
 use reference::random::{self, Random};
 use reference::sample::log_k;
@@ -20,7 +20,7 @@ fn cut_and_extend(asked: &Asked, met: &mut Met) {
     let good = &asked.defined;
     for length in 0..good.len() {
         let checked = asked.check(&good[..length], WORK);
-        assert_eq!(checked.unwrap_err().number, 15);
+        assert_eq!(checked.as_ref().unwrap_err().number, 15);
         met.add(&asked.question, &checked);
     }
     for extra in 0..=255 {
@@ -77,10 +77,17 @@ fn every_byte_of_answers_without_trace() {
     }
 }
 
-/// A question of a known direction about a random log, with its answer.
+#[test]
+fn every_byte_of_answers_to_spans() {
+    for question in [between(1, 10, 40), between(2, 21, 30), between(2, 21, 29), between(2, 31, 99), between(3, 0, 9)] {
+        every_value(question).exactly(6, 1, &[15, 16, 17, 18]);
+    }
+}
+
+/// A known question about a random log, with its answer.
 fn any_asked(random: &mut Random, most: usize) -> Asked {
     let records = random::sound_records(random, most);
-    let question = Question { direction: random::known_direction(random), ..random::question(random, &records) };
+    let question = random::known_question(random, &records);
     Asked::new(&Host::new(&records), question)
 }
 
@@ -88,7 +95,7 @@ fn any_asked(random: &mut Random, most: usize) -> Asked {
 fn every_byte_of_random_answers() {
     let mut random = Random::new(51);
     let mut met = Met::default();
-    for round in 0..400 {
+    for round in 0..470 {
         let asked = any_asked(&mut random, 9);
         cut_and_extend(&asked, &mut met);
         alter(&asked, &mut met, |good, place| vec![good ^ 1 << ((place + round) % 8), !good]);
@@ -98,6 +105,7 @@ fn every_byte_of_random_answers() {
         met.exactly(backward, 3, &[12, 15, 16, 17, 18, 19, 20, 21, 22, 23, 24]);
         met.exactly(forward, 3, &[12, 15, 16, 17, 18, 19, 20, 21, 23, 24]);
     }
+    met.exactly(6, 100, &[15, 16, 17, 18]);
     assert!(met.total() > 100_000, "{} answers", met.total());
 }
 
@@ -120,6 +128,30 @@ fn parts_of_random_answers() {
         met.includes(backward, 5, &[12, 15, 16, 17, 18, 19, 20, 21, 23, 24]);
         met.includes(forward, 5, &[12, 15, 16, 17, 18, 19, 20, 21, 23, 24]);
     }
+    met.exactly(6, 100, &[15, 16, 17, 18]);
+}
+
+/// Whole strings of a span's answer left out, doubled or exchanged: one version fewer, one twice, two in the other order.
+#[test]
+fn strings_of_spans() {
+    let mut random = Random::new(57);
+    let mut met = Met::default();
+    while met.total() < 30_000 {
+        let records = random::sound_records(&mut random, 12);
+        let asked = Asked::new(&Host::new(&records), random::question_of(&mut random, &records, 6));
+        let mut strings = pieces(&asked.defined).strings;
+        let (at, other) = (random.index(strings.len()), random.index(strings.len()));
+        match random.below(3) {
+            0 => drop(strings.remove(at)),
+            1 => strings.insert(at, strings[other].clone()),
+            _ => strings.swap(at, other),
+        }
+        let answer = strings.concat();
+        let checked = asked.check(&answer, 0);
+        assert_eq!(checked.is_ok(), answer == asked.defined);
+        met.add(&asked.question, &checked);
+    }
+    met.exactly(6, 500, &[0, 15, 16, 17, 18]);
 }
 
 /// The answer with one or two changes of what its trace shows, and now and then of its letters, its count or its end.

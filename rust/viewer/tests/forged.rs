@@ -6,13 +6,12 @@ mod common;
 use common::*;
 use reference::edit::edit;
 use reference::forge::{e, fits, group, known, leaf, long_proof, node, proof, proof_of_found, proof_of_leaf, proof_of_trace};
-use reference::forge::{root, s, trace, trace_of, Fitting};
+use reference::forge::{full_tree, opened, opened_node, proof_of_tree, root, s, trace, trace_of, Fitting, Opened};
 use reference::graph::{Dependency, Name, Version};
 use reference::random::{self, Random};
 use reference::sha256::sha256;
 use reference::trace::found_place;
-use reference::Question;
-use viewer::Verdict;
+use reference::{Question, Verdict, DIRECTIONS};
 
 const WORK: usize = 128 * 16;
 const MOST: usize = 65_535;
@@ -148,6 +147,76 @@ fn long_walks() {
     }
 }
 
+/// An L of any name, with any key.
+fn opened_leaf(key: u64, entity: u32, time: u64) -> Opened {
+    opened(key, key, &leaf(entity, time, &[1; 32], &[2; 32]))
+}
+
+/// A subtree that is known and not opened.
+fn closed(least: u64, greatest: u64) -> Opened {
+    Opened { known: known(least, greatest, b""), strings: Vec::new() }
+}
+
+/// A list has what the opened L strings say, in turn: other names than the keys, outside the span, not by rising time, one of them twice.
+#[test]
+fn a_list_is_what_the_leaves_say() {
+    let [first, second] = [opened_leaf(7, 9, 500), opened_leaf(3, 0, 2)];
+    let pair = opened_node(0, 99, &first, &second);
+    let tree = opened_node(4, u64::MAX, &pair, &opened_node(7, 3, &second, &first));
+    let fitting = proof_of_tree(1, &tree);
+    assert_eq!(check_fitting(between(1, 3, 7), &fitting, 0), listed(&[(9, 500), (0, 2), (0, 2), (9, 500)]));
+}
+
+/// A subtree is opened if its least key is at most the later time and its greatest at least the earlier, whatever stands above it.
+#[test]
+fn the_keys_that_a_span_meets() {
+    for (least, greatest) in [(8, 9), (0, 2), (8, 2), (8, 5), (5, 2), (u64::MAX, 0)] {
+        let off = closed(least, greatest);
+        assert_eq!(check_fitting(between(1, 3, 7), &proof_of_tree(1, &off), 0), listed(&[]));
+        let below = opened_node(3, 4, &off, &off);
+        assert_eq!(check_fitting(between(1, 3, 7), &proof_of_tree(1, &below), 0), listed(&[]));
+        let beside = opened_node(7, 99, &off, &opened_leaf(7, 1, 7));
+        assert_eq!(check_fitting(between(1, 3, 7), &proof_of_tree(1, &beside), 0), listed(&[(1, 7)]));
+    }
+    for (least, greatest) in [(7, 3), (7, 9), (0, 3), (0, u64::MAX)] {
+        assert_eq!(check_fitting(between(1, 3, 7), &proof_of_tree(1, &closed(least, greatest)), 0), refused(15, 122));
+    }
+}
+
+/// So many N strings down to a subtree.
+fn path(nodes: usize, last: &Opened) -> Opened {
+    (0..nodes).fold(last.clone(), |tree, _| opened_node(0, 9, &closed(0, 0), &tree))
+}
+
+/// Sixteen N on a path are the most. Below them an L is fine, and where the keys differ no letter is due.
+#[test]
+fn the_seventeenth_n() {
+    for nodes in [0, 1, 15, 16] {
+        let fitting = proof_of_tree(1, &path(nodes, &opened_leaf(5, 1, 5)));
+        assert_eq!(check_fitting(between(1, 3, 7), &fitting, 0), listed(&[(1, 5)]));
+    }
+    let fitting = proof_of_tree(1, &path(17, &opened_leaf(5, 1, 5)));
+    let start = 122 + 16 * 97;
+    assert_eq!(check_fitting(between(1, 3, 7), &fitting, 0), refused(16, start));
+    for letter in 0..=255 {
+        let cut = [&fitting.answer[..start], &[letter]].concat();
+        assert_eq!(check(&between(1, 3, 7), &fitting.commitment, &cut, 0), refused(16, start));
+    }
+    assert_eq!(check(&between(1, 3, 7), &fitting.commitment, &fitting.answer[..start], 0), refused(15, start));
+    // a span that meets none of them, and a question for one version
+    assert_eq!(check_fitting(between(1, 10, 12), &up_to_g(&fitting), 0), listed(&[]));
+    assert_eq!(check_fitting(ask(0, 1, 5), &fitting, 0), found(5, 0));
+}
+
+/// One more than any log has.
+#[test]
+fn a_list_of_65536() {
+    let fitting = proof_of_tree(1, &full_tree(16, &leaf(1, 5, &[1; 32], &[2; 32])));
+    assert_eq!(check_fitting(between(1, 3, 7), &fitting, 0), listed(&[(1, 5); 65_536]));
+    let more = followed_by(&fitting, b"L");
+    assert_eq!(check_fitting(between(1, 3, 7), &more, 0), refused(18, fitting.answer.len()));
+}
+
 /// Versions that each show both edges from the one before.
 fn both_from_the_one_before(count: usize) -> Vec<Version> {
     let name = |own: usize| Name { entity: own as u32 % 3, time: own as u64 };
@@ -229,7 +298,7 @@ fn generated(seed: u64) {
         let checked = check(&forged.question, &forged.commitment, &forged.answer, 128 * 6);
         whole.add(&forged.question, &checked);
         if let Ok(verdict) = checked {
-            given.add(&forged.question, verdict);
+            given.add(&forged.question, &verdict);
         }
         let bytes = random::damaged_answer(&mut random, &forged.answer);
         damaged.add(&forged.question, &check(&forged.question, &forged.commitment, &bytes, 128 * 6));
@@ -243,7 +312,10 @@ fn generated(seed: u64) {
         damaged.includes(backward, 10, &[12, 15, 16, 17, 18, 19, 20, 21, 22, 23, 24]);
         damaged.includes(forward, 10, &[12, 15, 16, 17, 18, 19, 20, 21, 23, 24]);
     }
-    given.each(500);
+    // but for a seventeenth N
+    whole.exactly(6, 20, &[0, 16]);
+    damaged.exactly(6, 10, &[15, 16, 17, 18]);
+    given.each(0..DIRECTIONS, 500);
 }
 
 #[test]

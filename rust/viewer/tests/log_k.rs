@@ -7,8 +7,8 @@ use reference::forge::{d, e, s, t, trace, v};
 use reference::hex::to_hex;
 use reference::log::{write, Record};
 use reference::sample::{birth, births, flow, log_k};
-use reference::Question;
-use viewer::{Refusal, Verdict};
+use reference::{Question, Verdict};
+use viewer::Refusal;
 
 /// A question about a log: the answer's length, its records, and the verdict of its check.
 fn case(log: &[Record], question: Question, length: usize, records: &[Vec<u8>], verdict: Verdict) {
@@ -18,9 +18,10 @@ fn case(log: &[Record], question: Question, length: usize, records: &[Vec<u8>], 
     let letter = if question.direction % 3 == 1 { b'B' } else { b'F' };
     assert!(records.is_empty() || answer.ends_with(&trace(letter, records)), "{question:?}");
     assert_eq!(check(&question, &logged.commitment, &answer, 128 * records.len()), Ok(verdict));
-    let asked = typed(&question).expect("a known direction");
-    let part = with_work(128 * records.len(), |work| viewer::records(&asked, &logged.commitment, &answer, work).to_vec());
-    assert_eq!(part, records.concat(), "{question:?}");
+    if let Typed::One(asked) = typed(&question) {
+        let part = with_work(128 * records.len(), |work| viewer::records(&asked, &logged.commitment, &answer, work).to_vec());
+        assert_eq!(part, records.concat(), "{question:?}");
+    }
 }
 
 fn version(time: u64, count: u64) -> Verdict {
@@ -78,6 +79,27 @@ fn none_so_late() {
         case(&log_k(), ask(direction, 2, 31), 219, &[], Verdict::NoneSoLate { last: 30 });
         case(&log_k(), ask(direction, 2, u64::MAX), 219, &[], Verdict::NoneSoLate { last: 30 });
     }
+}
+
+/// A span of Log K: the answer's length, and its versions.
+fn span(question: Question, length: usize, versions: &[(u32, u64)]) {
+    case(&log_k(), question, length, &[], listed(versions).expect("a list"));
+}
+
+#[test]
+fn all_versions_between_two_times() {
+    span(between(1, 10, 40), 470, &[(1, 10), (1, 40)]);
+    span(between(1, 0, u64::MAX), 470, &[(1, 10), (1, 40)]);
+    span(between(2, 20, 29), 393, &[(2, 20)]);
+    span(between(2, 30, 30), 393, &[(2, 30)]);
+    span(between(2, 21, 29), 316, &[]);
+    span(between(2, 31, 99), 219, &[]);
+    span(between(2, 0, 19), 219, &[]);
+    case(&log_k(), between(3, 0, 99), 65, &[], Verdict::NoEntity);
+    case(&[birth(1, 10), birth(5, 20)], between(3, 0, 99), 162, &[], Verdict::NoEntity);
+    let k = Logged::new(&log_k());
+    assert_eq!(k.answer(&between(1, 41, 40), 512, 999), refused(25, 0));
+    assert_eq!(check(&between(1, 41, 40), &k.commitment, &[], 0), refused(25, 0));
 }
 
 /// The least and the greatest time that a question or a version can have.

@@ -7,7 +7,7 @@ use reference::forge::{e, pieces, trace_with_count, Pieces};
 use reference::host::Host;
 use reference::sample::log_k;
 use reference::trace::found_place;
-use reference::{Question, Way};
+use reference::{Question, Way, BETWEEN};
 use viewer::plain;
 
 /// A question about Log K and its answer in pieces, with what a fault can change.
@@ -27,6 +27,8 @@ struct Case {
     cut: Option<(usize, usize)>,
     /// By how many bytes the work area is too short.
     short: usize,
+    /// By how many bytes the output is too short for the list.
+    narrow: usize,
 }
 
 impl Case {
@@ -43,6 +45,7 @@ impl Case {
             extra: Vec::new(),
             cut: None,
             short: 0,
+            narrow: 0,
         }
     }
 
@@ -68,22 +71,34 @@ impl Case {
         (128 * self.claimed() as usize).saturating_sub(self.short)
     }
 
-    /// The check beside the Rust version's, with every field of the result.
+    /// The bytes of the list of a question for all versions.
+    fn list(&self) -> usize {
+        12 * self.strings.iter().filter(|string| self.question.way().is_none() && string[0] | 0x20 == b'l').count()
+    }
+
+    /// The check beside the Rust version's, with every field of the result. A list too long for its output is only met here.
     fn number(&self) -> u64 {
         let (answer, work) = (self.answer(), self.work());
         let checked = check(&self.question, &self.commitment, &answer, work);
-        compare(&self.question, &self.commitment, &answer, work);
-        checked.err().map_or(0, |refusal| refusal.number)
+        let number = compare(&self.question, &self.commitment, &answer, work, self.list().saturating_sub(self.narrow));
+        if self.narrow == 0 {
+            assert_eq!(number, checked.err().map_or(0, |refusal| refusal.number));
+        }
+        number
     }
 }
 
-/// Every field of the exported check's result: the safe call does not show those that are 0 when it refuses.
-fn compare(question: &Question, commitment: &[u8], answer: &[u8], work: usize) {
-    let Question { direction, entity, time } = *question;
-    let given = with_work(work, |work| plain::check(direction, entity, time, commitment, answer, work));
+/// Every field of the exported check's result, and the output after it: the safe call does not show those that are 0 when it refuses. Gives the
+/// row's number.
+fn compare(question: &Question, commitment: &[u8], answer: &[u8], work: usize, out: usize) -> u64 {
+    let Question { direction, entity, time, until } = *question;
+    let (mut list, mut expected) = (vec![7; out], vec![7; out]);
+    let given = with_work(work, |work| plain::check(direction, entity, time, until, commitment, answer, work, &mut list));
     let plain::Checked { number, position, verdict, time: found, count } = given;
     let given = reference::Checked { number, position, verdict, time: found, count };
-    assert_eq!(given, reference::check(direction, entity, time, commitment, answer, &mut vec![0; work]));
+    let due = reference::check(direction, entity, time, until, commitment, answer, &mut vec![0; work], &mut expected);
+    assert_eq!((given, list), (due, expected));
+    number
 }
 
 /// A change of a case that makes it meet a row.
@@ -104,10 +119,14 @@ fn cut(index: impl Fn(&Case) -> usize + 'static, bytes: usize) -> Fault {
     })
 }
 
-fn at_the_start() -> Vec<Fault> {
-    let direction = |number| fault(11, move |case| case.question.direction = number);
+fn at_the_start(direction: u8) -> Vec<Fault> {
+    let unknown = |number| fault(11, move |case| case.question.direction = number);
+    let crossed = || fault(25, |case| (case.question.time, case.question.until) = (1, 0));
     let commitment = |length| fault(14, move |case| case.commitment.resize(length, 7));
-    vec![direction(6), direction(255), commitment(0), commitment(31), commitment(33)]
+    let mut faults = vec![unknown(7), unknown(255)];
+    faults.extend((direction == BETWEEN).then(crossed));
+    faults.extend([0, 31, 33].map(commitment));
+    faults
 }
 
 fn in_string(index: usize) -> Vec<Fault> {
@@ -170,7 +189,7 @@ fn of_the_trace(way: Way) -> Vec<Fault> {
 
 /// The faults of a case in the order of their rows.
 fn faults(case: &Case) -> Vec<Fault> {
-    let mut faults = at_the_start();
+    let mut faults = at_the_start(case.question.direction);
     faults.extend((0..case.strings.len()).flat_map(in_string));
     let way = case.letter.map(|_| way(&case.question));
     if let Some(way) = way {
@@ -183,6 +202,10 @@ fn faults(case: &Case) -> Vec<Fault> {
     }
     faults.push(after_the_end());
     faults.extend(way.into_iter().flat_map(of_the_trace));
+    if case.question.direction == BETWEEN && case.list() > 0 {
+        faults.push(fault(13, |case| case.narrow = 1));
+        faults.push(fault(13, |case| case.narrow = usize::MAX));
+    }
     faults
 }
 
@@ -211,7 +234,8 @@ fn every_row_alone_and_two_at_once() {
     let mut cases = 0;
     let before = [ask(1, 2, 35), ask(2, 2, 20), ask(0, 2, 35), ask(0, 2, 19), ask(1, 2, 19), ask(2, 3, 0)];
     let after = [ask(4, 2, 21), ask(5, 2, 20), ask(3, 2, 21), ask(3, 2, 31), ask(4, 2, 31), ask(5, 3, 0)];
-    for question in before.into_iter().chain(after) {
+    let spans = [between(1, 10, 40), between(2, 21, 30), between(2, 21, 29), between(2, 31, 99), between(3, 0, 9)];
+    for question in before.into_iter().chain(after).chain(spans) {
         cases += alone_and_in_pairs(&Case::new(question), &mut met);
     }
     for (only, backward, forward) in [(0, 1, 2), (3, 4, 5)] {
@@ -219,6 +243,7 @@ fn every_row_alone_and_two_at_once() {
         met.exactly(backward, 1, &[12, 14, 15, 16, 17, 18, 19, 20, 21, 22, 23, 24]);
         met.exactly(forward, 1, &[12, 14, 15, 16, 17, 18, 19, 20, 21, 23, 24]);
     }
+    met.exactly(6, 1, &[13, 14, 15, 16, 17, 18, 25]);
     met.exactly(UNKNOWN, 1, &[11]);
     assert!(cases > 4_000, "{cases} cases");
 }

@@ -13,7 +13,7 @@ returns : tie.Need-returns
 returns c =
     let b = c .before .before .record-bounds .ensures in
     let e = bounds-agree _ _ (b .0) in
-    (e, (b .1 .0, (part-agrees _ _ _ _ _ _ _ e, b .1 .1)))
+    (e, (b .1 .0, (part-agrees _ _ _ _ _ _ _ _ e, b .1 .1)))
 
 pub bozhtagul-records-spec : {M : Type 1} → statement M
 bozhtagul-records-spec = tie.close (tie.spec record-bounds-requires same-length returns)

@@ -1,7 +1,7 @@
 use borrow.Author.Needs.{needs}
 use denote.Ref.{now}
 use mathlib.Core.Path.{refl}
-use Rattle.checker.proofs.Running.{parted}
+use Rattle.checker.proofs.Calls.{parted}
 use Rattle.checker.proofs.records.Statement.{statement}
 use Rattle.checker.proofs.records.Tie as tie
 
@@ -27,7 +27,7 @@ returns : tie.Need-returns
 returns c =
     let a = c .before .before .before .before .before .before .before .before .before .args in
     let b = c .before .before .before .before .record-bounds .ensures in
-    (parted _ _ _ (now (a .commitment)) (now (a .answer)) (now (a .work)) _ _ (b .0) refl, b .1 .1)
+    (parted _ _ _ _ (now (a .commitment)) (now (a .answer)) (now (a .work)) _ _ (b .0) refl, b .1 .1)
 
 pub records-spec : {M : Type 1} → statement M
 records-spec =

@@ -3,10 +3,6 @@ use denote.Ref.{now}
 use Prim.Native.Nat.{_+_}
 use Rattle.kept_trees.proofs.Rows.{versions-within, entity-kept}
 use native.Mathlib.Omega.{arith}
-use borrow.Author.Needs.{needs}
-use denote.Ref.{now}
-use Prim.Native.Nat.{_+_}
-use Rattle.kept_trees.proofs.Rows.{versions-within, entity-kept}
 use Rattle.kept_trees.proofs.keep_entity.Statement.{statement}
 use Rattle.kept_trees.proofs.keep_entity.Tie as tie
 use Rattle.kept_trees.proofs.keep_entity.Reads as reads

@@ -4,12 +4,6 @@ use mathlib.Core.List.{[], _∷_}
 use Rattle.graph.specs.Table.{columns}
 use Rattle.graph.proofs.Slots.{kept-then}
 use Rattle.kept_trees.proofs.Rows.{digests-beside, ranked-same, all-within, trees-kept}
-use borrow.Author.Needs.{needs}
-use denote.Ref.{now}
-use mathlib.Core.List.{[], _∷_}
-use Rattle.graph.specs.Table.{columns}
-use Rattle.graph.proofs.Slots.{kept-then}
-use Rattle.kept_trees.proofs.Rows.{digests-beside, ranked-same, all-within, trees-kept}
 use Rattle.kept_trees.proofs.keep_trees.Statement.{statement}
 use Rattle.kept_trees.proofs.keep_trees.Tie as tie
 use Rattle.kept_trees.proofs.keep_trees.Reads as reads

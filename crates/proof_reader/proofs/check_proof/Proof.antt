@@ -1,43 +1,53 @@
 use borrow.Author.Needs.{needs}
-use Rattle.proof_reader.proofs.Strings.{passed}
-use Rattle.proof_reader.proofs.Walking.{root-refused, root-taken}
+use Rattle.proof_reader.proofs.Walking.{group-there, one-refused, one-missing, one-sought}
 use Rattle.proof_reader.proofs.check_proof.Statement.{statement}
 use Rattle.proof_reader.proofs.check_proof.Tie as tie
 
-take-string-requires : tie.Need-take-string-requires
-take-string-requires c κs = search needs
+find-entity-requires : tie.Need-find-entity-requires
+find-entity-requires c κs = search needs
 
 enum-known-number : tie.Need-enum-known-number
 enum-known-number c = search needs
 
-enum-told : tie.Need-enum-told
-enum-told c = search needs
+enum-known-end : tie.Need-enum-known-end
+enum-known-end c = search needs
+
+enum-known-group : tie.Need-enum-known-group
+enum-known-group c = search needs
 
 add-known : tie.Need-add-known
-add-known c = search needs
+add-known c =
+    let h = group-there _ _ _ _ (c .before .before .before .find-entity .ensures) _ (c .before .group .given .1) in search needs
 
-add-walk-entities : tie.Need-add-walk-entities
-add-walk-entities c = search needs
+add-walk-versions : tie.Need-add-walk-versions
+add-walk-versions c =
+    let h = group-there _ _ _ _ (c .before .before .before .find-entity .ensures) _ (c .before .group .given .1) in search needs
 
-walk-entities-requires : tie.Need-walk-entities-requires
-walk-entities-requires c κs =
-    let h = passed _ _ _ _ _ _ (c .before .before .take-string .ensures) (c .enum-told .given .1) .inside in search needs
+walk-versions-requires : tie.Need-walk-versions-requires
+walk-versions-requires c κs =
+    let h = group-there _ _ _ _ (c .before .before .before .find-entity .ensures) _ (c .before .group .given .1) in search needs
 
 returns : tie.Need-returns
-returns c = search root-refused
+returns c = one-refused _ _ _ _ _ _ (c .before .before .before .find-entity .ensures) _ _ (c .before .number .given .1)
 
 returns-2 : tie.Need-returns-2
-returns-2 c = search root-taken
+returns-2 c = one-missing _ _ _ _ _ _ (c .before .before .before .find-entity .ensures) _ (c .before .end .given .1)
+
+returns-3 : tie.Need-returns-3
+returns-3 c =
+    one-sought _ _ _ _ _ _ (c .before .before .before .before .find-entity .ensures) _ (c .before .before .group .given .1) _ (c .walk-versions .ensures)
 
 pub check-proof-spec : {M : Type 1} → statement M
 check-proof-spec =
     tie.close
     (tie.spec
-    take-string-requires
+    find-entity-requires
     enum-known-number
-    enum-told
+    enum-known-end
+    enum-known-group
     add-known
-    add-walk-entities
-    walk-entities-requires
+    add-walk-versions
+    walk-versions-requires
     returns
-    returns-2)
+    returns-2
+    returns-3)

@@ -2,7 +2,6 @@ use borrow.Author.Needs.{needs}
 use denote.Ref.{now}
 use Rattle.proof_writer.proofs.Seeking.{among-entity, among-version, entity-left, left-entity, left-version}
 use native.Mathlib.Omega.{arith}
-use borrow.Author.Needs.{needs}
 use Rattle.proof_writer.proofs.goes_left.Statement.{statement}
 use Rattle.proof_writer.proofs.goes_left.Tie as tie
 use Rattle.proof_writer.proofs.goes_left.Reads as reads

@@ -6,7 +6,6 @@ use Rattle.kept_trees.proofs.Rows.{size-small}
 use Rattle.proof_writer.specs.Walks.{descentOf, rowOf}
 use Rattle.proof_writer.proofs.Seeking.{tree-at, took-left, took-right}
 use native.Mathlib.Omega.{arith}
-use borrow.Author.Needs.{needs}
 use Rattle.proof_writer.proofs.half.Statement.{statement}
 use Rattle.proof_writer.proofs.half.Tie as tie
 use Rattle.proof_writer.proofs.half.Reads as reads

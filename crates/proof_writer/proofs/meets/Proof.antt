@@ -3,7 +3,6 @@ use denote.Ref.{now}
 use Rattle.question.specs.Directions.{spanOf}
 use Rattle.proof_writer.proofs.Spans.{meets-not, meets-by}
 use native.Mathlib.Omega.{arith}
-use borrow.Author.Needs.{needs}
 use Rattle.proof_writer.proofs.meets.Statement.{statement}
 use Rattle.proof_writer.proofs.meets.Tie as tie
 use Rattle.proof_writer.proofs.meets.Reads as reads

@@ -2,7 +2,6 @@ use borrow.Author.Needs.{needs}
 use denote.Ref.{now}
 use Rattle.proof_writer.proofs.Seeking.{outside-low, outside-high}
 use native.Mathlib.Omega.{arith}
-use borrow.Author.Needs.{needs}
 use Rattle.proof_writer.proofs.outside.Statement.{statement}
 use Rattle.proof_writer.proofs.outside.Tie as tie
 use Rattle.proof_writer.proofs.outside.Reads as reads

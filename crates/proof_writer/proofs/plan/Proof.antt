@@ -1,8 +1,5 @@
-use borrow.Author.Needs.{needs}
 use denote.Ref.{now}
 use Rattle.proof_writer.proofs.Planning.{plan-kept, ranked-after, has-trees}
-use native.Mathlib.Omega.{arith}
-use borrow.Author.Needs.{needs}
 use Rattle.proof_writer.proofs.plan.Statement.{statement}
 use Rattle.proof_writer.proofs.plan.Tie as tie
 use Rattle.proof_writer.proofs.plan.Reads as reads

@@ -5,7 +5,6 @@ use Rattle.question.specs.Directions.{questionOf}
 use Rattle.proof_writer.proofs.Seeking.{stopped-leads, reached-leads, sought-stopped, sought-reached, time-sought}
 use Rattle.proof_writer.proofs.Planning.{reached-leaves, reached-range, plan-unmet, plan-found}
 use native.Mathlib.Omega.{arith}
-use borrow.Author.Needs.{needs}
 use Rattle.proof_writer.proofs.plan_versions.Statement.{statement}
 use Rattle.proof_writer.proofs.plan_versions.Tie as tie
 use Rattle.proof_writer.proofs.plan_versions.Reads as reads

@@ -13,6 +13,9 @@ enum-known-plan-2 c = search needs
 enum-known-plan-3 : tie.Need-enum-known-plan-3
 enum-known-plan-3 c = search needs
 
+enum-known-plan-4 : tie.Need-enum-known-plan-4
+enum-known-plan-4 c = search needs
+
 returns : tie.Need-returns
 unfolding length-of
 returns c = sym (ap length-of (c .before .plan .given .1))
@@ -25,7 +28,19 @@ returns-3 : tie.Need-returns-3
 unfolding length-of
 returns-3 c = sym (ap length-of (c .before .plan3 .given .1))
 
+returns-4 : tie.Need-returns-4
+unfolding length-of
+returns-4 c = sym (ap length-of (c .before .plan4 .given .1))
+
 pub proof-length-spec : {M : Type 1} → statement M
 proof-length-spec =
     tie.close
-    (tie.spec enum-known-plan enum-known-plan-2 enum-known-plan-3 returns returns-2 returns-3)
+    (tie.spec
+    enum-known-plan
+    enum-known-plan-2
+    enum-known-plan-3
+    enum-known-plan-4
+    returns
+    returns-2
+    returns-3
+    returns-4)

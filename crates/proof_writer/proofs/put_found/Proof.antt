@@ -3,7 +3,6 @@ use denote.Ref.{now}
 use Rattle.accumulator.specs.Trees.{headerOf}
 use Rattle.proof_writer.proofs.Writing.{found-is}
 use native.Mathlib.Omega.{arith}
-use borrow.Author.Needs.{needs}
 use Rattle.proof_writer.proofs.put_found.Statement.{statement}
 use Rattle.proof_writer.proofs.put_found.Tie as tie
 use Rattle.proof_writer.proofs.put_found.Reads as reads

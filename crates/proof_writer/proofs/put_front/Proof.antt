@@ -4,7 +4,6 @@ use Rattle.accumulator.specs.Trees.{headerOf}
 use Rattle.kept_trees.proofs.Rows.{all-within}
 use Rattle.proof_writer.proofs.Writing.{front-is}
 use native.Mathlib.Omega.{arith}
-use borrow.Author.Needs.{needs}
 use Rattle.proof_writer.proofs.put_front.Statement.{statement}
 use Rattle.proof_writer.proofs.put_front.Tie as tie
 use Rattle.proof_writer.proofs.put_front.Reads as reads

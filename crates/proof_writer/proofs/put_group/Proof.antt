@@ -2,7 +2,6 @@ use borrow.Author.Needs.{needs}
 use denote.Ref.{now}
 use Rattle.proof_writer.proofs.Writing.{group-is}
 use native.Mathlib.Omega.{arith}
-use borrow.Author.Needs.{needs}
 use Rattle.proof_writer.proofs.put_group.Statement.{statement}
 use Rattle.proof_writer.proofs.put_group.Tie as tie
 use Rattle.proof_writer.proofs.put_group.Reads as reads

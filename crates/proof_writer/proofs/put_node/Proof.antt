@@ -4,7 +4,6 @@ use mathlib.Core.Path.{ap₂, _∙_}
 use Rattle.fields.specs.Fields.{written}
 use Rattle.model.specs.Accumulator.{Subtree as Known, branch-string}
 use native.Mathlib.Omega.{arith}
-use borrow.Author.Needs.{needs}
 use Rattle.proof_writer.proofs.put_node.Statement.{statement}
 use Rattle.proof_writer.proofs.put_node.Tie as tie
 use Rattle.proof_writer.proofs.put_node.Reads as reads

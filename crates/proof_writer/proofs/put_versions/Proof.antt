@@ -3,7 +3,6 @@ use denote.Ref.{now}
 use Rattle.proof_writer.proofs.Planning.{reached-number, reached-range, reached-kept}
 use Rattle.proof_writer.proofs.Writing.{versions-is}
 use native.Mathlib.Omega.{arith}
-use borrow.Author.Needs.{needs}
 use Rattle.proof_writer.proofs.put_versions.Statement.{statement}
 use Rattle.proof_writer.proofs.put_versions.Tie as tie
 use Rattle.proof_writer.proofs.put_versions.Reads as reads

@@ -3,7 +3,6 @@ use denote.Ref.{now}
 use Rattle.accumulator.specs.Trees.{headerOf}
 use Rattle.proof_writer.proofs.Writing.{walk-is}
 use native.Mathlib.Omega.{arith}
-use borrow.Author.Needs.{needs}
 use Rattle.proof_writer.proofs.put_walk.Statement.{statement}
 use Rattle.proof_writer.proofs.put_walk.Tie as tie
 use Rattle.proof_writer.proofs.put_walk.Reads as reads

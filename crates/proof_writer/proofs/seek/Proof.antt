@@ -3,7 +3,6 @@ use denote.Ref.{now}
 use Rattle.kept_trees.proofs.Rows.{size-small}
 use Rattle.proof_writer.specs.Walks.{rowOf}
 use Rattle.proof_writer.proofs.Seeking.{Seeking, seeking-none, seeking-leads, seeking-stopped, seeking-reached, seeking-less, seeking-more, stopped-target, stopped-depth, reached-target, reached-depth}
-use native.Mathlib.Omega.{arith}
 use Rattle.proof_writer.proofs.seek.Statement.{statement}
 use Rattle.proof_writer.proofs.seek.Tie as tie
 use Rattle.proof_writer.proofs.seek.Reads as reads

@@ -1,8 +1,6 @@
 use borrow.Author.Needs.{needs}
 use denote.Ref.{now}
 use Rattle.proof_writer.proofs.Seeking.{among-entity, among-version, stops-entity, stops-version}
-use native.Mathlib.Omega.{arith}
-use borrow.Author.Needs.{needs}
 use Rattle.proof_writer.proofs.stops.Statement.{statement}
 use Rattle.proof_writer.proofs.stops.Tie as tie
 use Rattle.proof_writer.proofs.stops.Reads as reads

@@ -2,7 +2,6 @@ use borrow.Author.Needs.{needs}
 use denote.Ref.{now}
 use Rattle.proof_writer.proofs.Seeking.{unmet-back, unmet-ahead}
 use native.Mathlib.Omega.{arith}
-use borrow.Author.Needs.{needs}
 use Rattle.proof_writer.proofs.unmet.Statement.{statement}
 use Rattle.proof_writer.proofs.unmet.Tie as tie
 use Rattle.proof_writer.proofs.unmet.Reads as reads

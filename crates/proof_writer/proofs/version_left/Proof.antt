@@ -2,7 +2,6 @@ use borrow.Author.Needs.{needs}
 use denote.Ref.{now}
 use Rattle.proof_writer.proofs.Seeking.{left-back, left-ahead}
 use native.Mathlib.Omega.{arith}
-use borrow.Author.Needs.{needs}
 use Rattle.proof_writer.proofs.version_left.Statement.{statement}
 use Rattle.proof_writer.proofs.version_left.Tie as tie
 use Rattle.proof_writer.proofs.version_left.Reads as reads

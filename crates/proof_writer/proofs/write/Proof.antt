@@ -1,9 +1,7 @@
 use borrow.Author.Needs.{needs}
 use denote.Ref.{now}
 use Rattle.accumulator.specs.Trees.{headerOf}
-use Rattle.proof_writer.proofs.Writing.{no-entity-ready, no-entity-done, unmet-ready, unmet-done, found-ready, found-done}
-use native.Mathlib.Omega.{arith}
-use borrow.Author.Needs.{needs}
+use Rattle.proof_writer.proofs.Writing.{no-entity-ready, no-entity-done, unmet-ready, unmet-done, found-ready, found-done, listed-ready, listed-done}
 use Rattle.proof_writer.proofs.write.Statement.{statement}
 use Rattle.proof_writer.proofs.write.Tie as tie
 use Rattle.proof_writer.proofs.write.Reads as reads
@@ -32,6 +30,14 @@ put-found-requires c κs =
     let s = c .before .before .before .before .before .before in
     (found-ready (now (s .args .work)) _ (s .args .plan) _ _ _ _ (c .before .before .plan3 .given .1) (s .pre .0 .0) _ (s .pre .0 .1), s .pre .1)
 
+enum-known-plan-4 : tie.Need-enum-known-plan-4
+enum-known-plan-4 c = search needs
+
+put-listed-requires : tie.Need-put-listed-requires
+put-listed-requires c κs =
+    let s = c .before .before .before .before .before .before in
+    (listed-ready (now (s .args .work)) _ (s .args .plan) _ _ _ (c .before .before .plan4 .given .1) (s .pre .0 .0) _ (s .pre .0 .1), s .pre .1)
+
 same-length : tie.Need-same-length
 same-length c = search needs
 
@@ -56,6 +62,14 @@ returns-3 c =
     let s = c .before .before .before .before .before .before .before .before .before in
     found-done (now (s .args .work)) _ (s .args .plan) _ _ _ _ (c .before .before .before .before .before .plan3 .given .1) (headerOf (s .args .header)) (now (s .args .out)) _ (c .before .before .put-found .ensures)
 
+same-length-4 : tie.Need-same-length-4
+same-length-4 c = search needs
+
+returns-4 : tie.Need-returns-4
+returns-4 c =
+    let s = c .before .before .before .before .before .before .before .before .before in
+    listed-done (now (s .args .work)) _ (s .args .plan) _ _ _ (c .before .before .before .before .before .plan4 .given .1) (headerOf (s .args .header)) (now (s .args .out)) _ (c .before .before .put-listed .ensures)
+
 pub write-spec : {M : Type 1} → statement M
 write-spec =
     tie.close
@@ -66,9 +80,13 @@ write-spec =
     put-walk-requires
     enum-known-plan-3
     put-found-requires
+    enum-known-plan-4
+    put-listed-requires
     same-length
     returns
     same-length-2
     returns-2
     same-length-3
-    returns-3)
+    returns-3
+    same-length-4
+    returns-4)

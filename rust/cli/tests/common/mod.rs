@@ -122,6 +122,10 @@ impl Logged {
     }
 
     pub fn answer(&self, direction: u8, entity: u32, time: u64) -> Vec<u8> {
-        self.host.answer(&Question { direction, entity, time })
+        self.host.answer(&Question::new(direction, entity, time))
+    }
+
+    pub fn between(&self, entity: u32, from: u64, until: u64) -> Vec<u8> {
+        self.host.answer(&Question::between(entity, from, until))
     }
 }

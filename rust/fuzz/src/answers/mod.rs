@@ -21,6 +21,8 @@ pub struct Asked {
     pub answer: Vec<u8>,
     /// Bytes of work area for the records that the trace header claims, if it may claim them.
     pub work: usize,
+    /// Bytes of output for a version of each leaf.
+    pub out: usize,
 }
 
 /// Any: as it is now and then, else with some changes, mostly one.
@@ -33,7 +35,8 @@ pub fn any(random: &mut Random) -> Asked {
     if random.once_in(10) {
         answer = random::damaged_answer(random, &answer);
     }
-    Asked { work: work(&posed.pieces), question: posed.question, commitment: posed.commitment, answer }
+    let (work, out) = (work(&posed.pieces), list(&posed.pieces));
+    Asked { work, out, question: posed.question, commitment: posed.commitment, answer }
 }
 
 fn change(random: &mut Random, posed: &mut Posed) {
@@ -48,9 +51,10 @@ fn change(random: &mut Random, posed: &mut Posed) {
 }
 
 fn edit_question(random: &mut Random, question: &mut Question) {
-    match random.below(3) {
+    match random.below(4) {
         0 => question.direction = if random.once_in(2) { random.byte() } else { random::known_direction(random) },
         1 => question.entity = near(random, u64::from(question.entity)) as u32,
+        2 => question.until = near(random, question.until),
         _ => question.time = near(random, question.time),
     }
 }
@@ -88,12 +92,16 @@ fn work(pieces: &Pieces) -> usize {
     reference::WORK * if claimed > reference::log::MOST_RECORDS { pieces.records.len() } else { claimed }
 }
 
+fn list(pieces: &Pieces) -> usize {
+    reference::LIST_ENTRY * pieces.strings.iter().filter(|string| string.first() == Some(&b'L')).count()
+}
+
 /// The length of the defined answer about a sound log.
 pub fn length(question: &Question, records: &[Record]) -> usize {
     defined(&Host::new(records), question).len()
 }
 
-/// The defined answer; for an unknown direction, which has none, that of the version alone.
+/// The defined answer; for an unknown question, which has none, that of the version alone.
 fn defined(host: &Host, question: &Question) -> Vec<u8> {
     let direction = question.asked().map_or(0, |_| question.direction);
     host.answer(&Question { direction, ..*question })

@@ -22,7 +22,7 @@ fn main() {
 
 /// Reads or writes a byte beside what is lent, or writes what is lent for reading.
 fn touch(wanted: &str, memory: &Memory) {
-    let (input, work) = (memory.input.as_ptr().cast_mut(), memory.work.as_ptr().cast_mut());
+    let [input, work, out] = [memory.input, &*memory.work, &*memory.out].map(|lent| lent.as_ptr().cast_mut());
     // not sound, on purpose: this is what a library must not do
     unsafe {
         match wanted {
@@ -30,6 +30,8 @@ fn touch(wanted: &str, memory: &Memory) {
             "read before" => drop(input.wrapping_sub(1).read_volatile()),
             "write after" => work.wrapping_add(memory.work.len()).write_volatile(1),
             "write before" => work.wrapping_sub(1).write_volatile(1),
+            "write after the output" => out.wrapping_add(memory.out.len()).write_volatile(1),
+            "write before the output" => out.wrapping_sub(1).write_volatile(1),
             "write input" if !memory.input.is_empty() => input.write_volatile(1),
             _ => {}
         }

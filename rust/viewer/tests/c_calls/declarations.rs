@@ -123,10 +123,13 @@ fn the_header_has_the_viewers_numbers() {
         ("VERSION_ONLY_AFTER", viewer::Direction::VersionOnlyAfter.number().into()),
         ("BACKWARD_AFTER", viewer::Direction::BackwardAfter.number().into()),
         ("FORWARD_AFTER", viewer::Direction::ForwardAfter.number().into()),
+        ("BETWEEN", viewer::Span::DIRECTION.into()),
         ("NO_ENTITY", reference::NO_ENTITY as usize),
         ("NOT_YET", reference::NOT_YET as usize),
         ("FOUND", reference::FOUND as usize),
         ("NONE_SO_LATE", reference::NONE_SO_LATE as usize),
+        ("LISTED", reference::LISTED as usize),
+        ("VERSION", reference::LIST_ENTRY),
         ("DIGEST", viewer::DIGEST),
         ("WORK", viewer::work_length(1)),
         ("MOST_RECORDS", viewer::MOST_RECORDS),
@@ -137,6 +140,11 @@ fn the_header_has_the_viewers_numbers() {
     assert!(header.contains("#define BOZHTAGUL_MOST_ANSWER(records) (3211 + 22 * (size_t)(records))\n"));
     for records in (1..500).chain([32_768, 65_534, 65_535]) {
         assert!(viewer::most_answer(viewer::Direction::Forward, records) <= 3211 + 22 * records, "{records}");
+    }
+    assert!(header.contains("#define BOZHTAGUL_MOST_SPAN_ANSWER(records) (122 + 174 * (size_t)(records))\n"));
+    assert!(header.contains("#define BOZHTAGUL_MOST_LIST(answer_len) (BOZHTAGUL_VERSION * ((size_t)(answer_len) / 77))\n"));
+    for records in (1..500).chain([32_768, 65_534, 65_535]) {
+        assert!(viewer::most_span_answer(records) <= 122 + 174 * records, "{records}");
     }
 }
 

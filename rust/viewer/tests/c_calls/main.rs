@@ -50,7 +50,11 @@ fn the_example_goes_from_a_log_to_a_checked_history() {
                     E 2 at 20\n\
                     V 2 at 30, kind 7, from record 1, from record 0\n\
                     what came of the first version of 2 at or after 31? answer of 219 bytes\n\
-                    none so late: the last version is at 30\n";
+                    none so late: the last version is at 30\n\
+                    which versions of 1 are from 10 to 40? answer of 470 bytes\n\
+                    listed, 2 versions\n\
+                    1 at 10\n\
+                    1 at 40\n";
     assert_eq!(run("include/example.c"), expected);
 }
 

@@ -32,13 +32,19 @@ int main(void) {
     SHOW("listing", listing);
     struct bozhtagul_outcome commitment = bozhtagul_commitment(NULL, 0, NULL, 0, NULL, 0);
     SHOW("commitment", commitment);
-    struct bozhtagul_written answer = bozhtagul_answer(1, 2, 35, NULL, 0, NULL, 0, NULL, 0);
+    struct bozhtagul_written answer = bozhtagul_answer(1, 2, 35, 0, NULL, 0, NULL, 0, NULL, 0);
     SHOW("answer", answer);
-    struct bozhtagul_checked check = bozhtagul_check(1, 2, 35, NULL, 0, NULL, 0, NULL, 0);
+    struct bozhtagul_checked check = bozhtagul_check(1, 2, 35, 0, NULL, 0, NULL, 0, NULL, 0, NULL, 0);
     SHOW("check", check);
-    struct bozhtagul_checked empty = bozhtagul_check(1, 2, 35, out, sizeof out, NULL, 0, NULL, 0);
+    struct bozhtagul_checked empty = bozhtagul_check(1, 2, 35, 0, out, sizeof out, NULL, 0, NULL, 0, NULL, 0);
     SHOW("check", empty);
-    struct bozhtagul_part records = bozhtagul_records(1, 2, 35, out, sizeof out, NULL, 0, NULL, 0);
+    struct bozhtagul_part records = bozhtagul_records(1, 2, 35, 0, out, sizeof out, NULL, 0, NULL, 0);
     SHOW("records", records);
+    struct bozhtagul_written crossed_answer = bozhtagul_answer(BOZHTAGUL_BETWEEN, 2, 35, 34, NULL, 0, NULL, 0, NULL, 0);
+    SHOW("answer", crossed_answer);
+    struct bozhtagul_checked crossed = bozhtagul_check(BOZHTAGUL_BETWEEN, 2, 35, 34, NULL, 0, NULL, 0, NULL, 0, NULL, 0);
+    SHOW("check", crossed);
+    struct bozhtagul_checked span = bozhtagul_check(BOZHTAGUL_BETWEEN, 2, 35, 35, out, sizeof out, NULL, 0, NULL, 0, NULL, 0);
+    SHOW("check", span);
     return 0;
 }

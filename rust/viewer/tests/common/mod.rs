@@ -1,27 +1,43 @@
 //! Shared by the tests of the calls on questions: each call beside the Rust version's, and a count of the rows that were met.
 #![allow(dead_code)]
 
-use reference::check::{self as rows, Accepted};
+use reference::check as rows;
 use reference::forge::{self, pieces, versions_of, Pieces};
-use reference::graph::Version;
+use reference::graph::{Name, Version};
 use reference::host::Host;
 use reference::log::{write, Record};
 use reference::random::{self, Random};
 use reference::sha256::Digest;
-use reference::{Question, Way, DIRECTIONS};
+use reference::{Question, Verdict, Way, BETWEEN, DIRECTIONS};
 use std::ops::Range;
-use viewer::{plain, Direction, Refusal, Verdict};
+use viewer::{plain, Direction, Listed, Refusal, Span};
 
 pub type Checked = Result<Verdict, Refusal>;
 
 pub fn ask(direction: u8, entity: u32, time: u64) -> Question {
-    Question { direction, entity, time }
+    Question::new(direction, entity, time)
 }
 
-/// The question as the library's own type has it; row 11 if it has no such value.
-pub fn typed(question: &Question) -> Result<viewer::Question, Refusal> {
-    let direction = Direction::try_from(question.direction)?;
-    Ok(viewer::Question { direction, entity: question.entity, time: question.time })
+pub fn between(entity: u32, from: u64, until: u64) -> Question {
+    Question::between(entity, from, until)
+}
+
+/// The question as one of the library's own types has it.
+#[derive(Clone, Copy)]
+pub enum Typed {
+    One(viewer::Question),
+    All(Span),
+    /// A plain number that is no direction.
+    Unknown,
+}
+
+pub fn typed(question: &Question) -> Typed {
+    let Question { direction, entity, time, until } = *question;
+    match Direction::try_from(direction) {
+        Ok(direction) => Typed::One(viewer::Question { direction, entity, time }),
+        Err(_) if direction == Span::DIRECTION => Typed::All(Span { entity, from: time, until }),
+        Err(_) => Typed::Unknown,
+    }
 }
 
 pub fn refused<T>(number: u64, position: usize) -> Result<T, Refusal> {
@@ -32,6 +48,11 @@ pub fn found(time: u64, count: u64) -> Checked {
     Ok(Verdict::Found { time, count })
 }
 
+/// A list of versions, each an entity and a time.
+pub fn listed(versions: &[(u32, u64)]) -> Checked {
+    Ok(Verdict::Listed(versions.iter().map(|&(entity, time)| Name { entity, time }).collect()))
+}
+
 /// A call with a work area of that many bytes, none of them zero before and all of them zero after.
 pub fn with_work<T>(length: usize, call: impl FnOnce(&mut [u8]) -> T) -> T {
     let mut work = vec![0xa5; length];
@@ -40,26 +61,75 @@ pub fn with_work<T>(length: usize, call: impl FnOnce(&mut [u8]) -> T) -> T {
     result
 }
 
-/// Checks an answer with a work area of that many bytes. Verdict, row and position, and the place of the records, are the Rust version's.
+/// A call with an output of that many bytes, and how many of its first bytes it wrote: the others stay.
+pub fn with_output<T>(length: usize, call: impl FnOnce(&mut [u8]) -> (T, usize)) -> (T, Vec<u8>) {
+    let before: Vec<u8> = (0..length).map(|place| (7 * place + 3) as u8).collect();
+    let mut out = before.clone();
+    let (result, written) = call(&mut out);
+    assert!(out[written..] == before[written..], "bytes behind the result are changed");
+    out.truncate(written);
+    (result, out)
+}
+
+/// Checks an answer with a work area of that many bytes, and an output that is long enough. Verdict, row and position, and the place of the
+/// records, are the Rust version's.
 pub fn check(question: &Question, commitment: &[u8], answer: &[u8], work: usize) -> Checked {
     let expected = rows::check(question, commitment, answer, work);
     let place = expected.as_ref().ok().and_then(|accepted| accepted.records.clone()).unwrap_or(0..0);
     let given = match typed(question) {
-        Ok(asked) => check_typed(&asked, commitment, answer, work, place),
-        Err(_) => check_unknown(question, commitment, answer, work),
+        Typed::One(asked) => check_typed(&asked, commitment, answer, work, place),
+        Typed::All(span) => check_span(&span, commitment, answer, work),
+        Typed::Unknown => check_unknown(question, commitment, answer, work),
     };
-    assert_eq!(given, expected.map(verdict).map_err(refusal), "{question:?}");
+    assert_eq!(given, expected.map(|accepted| accepted.verdict).map_err(refusal), "{question:?}");
+    given
+}
+
+/// The check of a span with enough output. With a byte too few it meets row 13, unless it meets another already, and leaves the output as it
+/// was. There are no records, and any work area is all zero after.
+fn check_span(span: &Span, commitment: &[u8], answer: &[u8], work: usize) -> Checked {
+    let given = list_into(span, commitment, answer, viewer::list_for(answer).len() + 1);
+    let length = match &given {
+        Ok(Verdict::Listed(names)) => 12 * names.len(),
+        _ => 0,
+    };
+    assert_eq!(list_into(span, commitment, answer, length), given, "{span:?}");
+    if length > 0 {
+        assert_eq!(list_into(span, commitment, answer, length - 1), refused(13, 0), "{span:?}");
+    }
+    let Span { entity, from, until } = *span;
+    let part = with_work(work, |work| plain::records(Span::DIRECTION, entity, from, until, commitment, answer, work));
+    assert_eq!((part.start, part.length), (0, 0), "{span:?}");
+    let (checked, _) = with_output(length, |out| {
+        (with_work(work, |work| plain::check(Span::DIRECTION, entity, from, until, commitment, answer, work, out)), length)
+    });
+    let number = given.as_ref().err().map_or(0, |refusal| refusal.number);
+    assert_eq!((checked.number, checked.time, checked.count), (number, 0, length as u64 / 12), "{span:?}");
+    given
+}
+
+/// The list, written to an output of that many bytes, of which no other byte is changed.
+fn list_into(span: &Span, commitment: &[u8], answer: &[u8], length: usize) -> Checked {
+    let (given, _) = with_output(length, |out| match viewer::check_span(span, commitment, answer, out) {
+        Err(refusal) => (Err(refusal), 0),
+        Ok(Listed::NoEntity) => (Ok(Verdict::NoEntity), 0),
+        Ok(Listed::Versions(versions)) => {
+            let written = versions.as_bytes().len();
+            assert_eq!(written, 12 * versions.len());
+            (Ok(Verdict::Listed(versions.map(|version| Name { entity: version.entity, time: version.time }).collect())), written)
+        }
+    });
     given
 }
 
 /// The check, with the records at that place; the call that gives both gives the same.
 fn check_typed(asked: &viewer::Question, commitment: &[u8], answer: &[u8], work: usize, place: Range<usize>) -> Checked {
-    let given = with_work(work, |work| viewer::check(asked, commitment, answer, work));
+    let given = with_work(work, |work| viewer::check(asked, commitment, answer, work)).map(verdict);
     let part = with_work(work, |work| viewer::records(asked, commitment, answer, work));
     let start = part.as_ptr() as usize - answer.as_ptr() as usize;
     assert_eq!(start..start + part.len(), place, "{asked:?}");
     let both = with_work(work, |work| viewer::checked(asked, commitment, answer, work));
-    assert_eq!(both.as_ref().map(|both| both.verdict).map_err(|refusal| *refusal), given, "{asked:?}");
+    assert_eq!(both.as_ref().map(|both| verdict(both.verdict)).map_err(|refusal| *refusal), given, "{asked:?}");
     if let Ok(both) = both {
         assert_eq!(both.records.as_bytes(), part, "{asked:?}");
         assert_eq!(both.records.len(), both.records.clone().count(), "{asked:?}");
@@ -81,20 +151,23 @@ fn encoded(record: viewer::Record) -> Vec<u8> {
 
 /// The check of a question whose direction only a plain number has: there are no records.
 fn check_unknown(question: &Question, commitment: &[u8], answer: &[u8], work: usize) -> Checked {
-    let Question { direction, entity, time } = *question;
-    let checked = with_work(work, |work| plain::check(direction, entity, time, commitment, answer, work));
+    let Question { direction, entity, time, until } = *question;
+    let (checked, _) = with_output(24, |out| {
+        (with_work(work, |work| plain::check(direction, entity, time, until, commitment, answer, work, out)), 0)
+    });
     assert_eq!((checked.verdict, checked.time, checked.count), (0, 0, 0), "{question:?}");
-    let part = with_work(work, |work| plain::records(direction, entity, time, commitment, answer, work));
+    let part = with_work(work, |work| plain::records(direction, entity, time, until, commitment, answer, work));
     assert_eq!((part.start, part.length), (0, 0), "{question:?}");
     refused(checked.number, checked.position as usize)
 }
 
-fn verdict(accepted: Accepted) -> Verdict {
-    match accepted.verdict {
-        reference::Verdict::NoEntity => Verdict::NoEntity,
-        reference::Verdict::NotYet { first } => Verdict::NotYet { first },
-        reference::Verdict::NoneSoLate { last } => Verdict::NoneSoLate { last },
-        reference::Verdict::Found { time, count } => Verdict::Found { time, count },
+/// The verdict as the Rust version has it.
+fn verdict(verdict: viewer::Verdict) -> Verdict {
+    match verdict {
+        viewer::Verdict::NoEntity => Verdict::NoEntity,
+        viewer::Verdict::NotYet { first } => Verdict::NotYet { first },
+        viewer::Verdict::NoneSoLate { last } => Verdict::NoneSoLate { last },
+        viewer::Verdict::Found { time, count } => Verdict::Found { time, count },
     }
 }
 
@@ -107,12 +180,13 @@ fn refusal(refusal: reference::Refusal) -> Refusal {
 pub fn answer(question: &Question, log: &[u8], work: usize, out: usize) -> (Result<u64, Refusal>, Vec<u8>) {
     let before: Vec<u8> = (0..out).map(|place| (7 * place + 3) as u8).collect();
     let (mut given, mut expected) = (before.clone(), before);
-    let Question { direction, entity, time } = *question;
+    let Question { direction, entity, time, until } = *question;
     let result = with_work(work, |work| match typed(question) {
-        Ok(asked) => viewer::answer(&asked, log, work, &mut given),
-        Err(_) => answer_unknown(question, log, work, &mut given),
+        Typed::One(asked) => viewer::answer(&asked, log, work, &mut given),
+        Typed::All(span) => viewer::answer_span(&span, log, work, &mut given),
+        Typed::Unknown => answer_unknown(question, log, work, &mut given),
     });
-    let written = reference::answer(direction, entity, time, log, &mut vec![0; work], &mut expected);
+    let written = reference::answer(direction, entity, time, until, log, &mut vec![0; work], &mut expected);
     match written.number {
         0 => assert_eq!(result, Ok(written.length)),
         number => assert_eq!(result, refused(number, written.position as usize)),
@@ -124,7 +198,7 @@ pub fn answer(question: &Question, log: &[u8], work: usize, out: usize) -> (Resu
 
 /// The answer to a question whose direction only a plain number has.
 fn answer_unknown(question: &Question, log: &[u8], work: &mut [u8], out: &mut [u8]) -> Result<u64, Refusal> {
-    let written = plain::answer(question.direction, question.entity, question.time, log, work, out);
+    let written = plain::answer(question.direction, question.entity, question.time, question.until, log, work, out);
     assert_eq!(written.length, 0, "{question:?}");
     refused(written.number, written.position as usize)
 }
@@ -204,7 +278,7 @@ pub struct Traced {
 pub fn any_traced(random: &mut Random, direction: u8, most: usize) -> Traced {
     loop {
         let records = random::sound_records(random, most);
-        let question = Question { direction, ..random::question(random, &records) };
+        let question = random::question_of(random, &records, direction);
         let asked = Asked::new(&Host::new(&records), question);
         let Pieces { strings, header, records } = pieces(&asked.defined);
         if header.is_some() {
@@ -213,13 +287,13 @@ pub fn any_traced(random: &mut Random, direction: u8, most: usize) -> Traced {
     }
 }
 
-/// Where directions above 5 are counted.
+/// Where directions above 6 are counted.
 pub const UNKNOWN: usize = DIRECTIONS as usize;
 
 /// How often each row was met (0: accepted), by direction.
 #[derive(Default)]
 pub struct Met {
-    rows: [[usize; 25]; UNKNOWN + 1],
+    rows: [[usize; 26]; UNKNOWN + 1],
 }
 
 impl Met {
@@ -249,29 +323,35 @@ impl Met {
     }
 }
 
-/// How often each verdict was given, by direction: no entity, not yet, none so late, found.
+/// How often each verdict was given, by direction: no entity, not yet, none so late, found, listed.
 #[derive(Default)]
 pub struct Given {
-    verdicts: [[usize; 4]; DIRECTIONS as usize],
+    verdicts: [[usize; 5]; DIRECTIONS as usize],
 }
 
 impl Given {
-    pub fn add(&mut self, question: &Question, verdict: Verdict) {
+    pub fn add(&mut self, question: &Question, verdict: &Verdict) {
         let place = match verdict {
             Verdict::NoEntity => 0,
             Verdict::NotYet { .. } => 1,
             Verdict::NoneSoLate { .. } => 2,
             Verdict::Found { .. } => 3,
+            Verdict::Listed(_) => 4,
         };
         self.verdicts[question.direction as usize][place] += 1;
     }
 
-    /// In every direction each verdict was given so many times at least, but for the stop of the other relation, which was never.
-    pub fn each(&self, least: usize) {
-        for (direction, given) in self.verdicts.iter().enumerate() {
-            let never = if direction < 3 { 2 } else { 1 };
+    /// In each of these directions every verdict that it has was given so many times at least, and no other.
+    pub fn each(&self, directions: Range<u8>, least: usize) {
+        for direction in directions {
+            let given = self.verdicts[direction as usize];
+            let has: &[usize] = match direction {
+                0..3 => &[0, 1, 3],
+                3..BETWEEN => &[0, 2, 3],
+                _ => &[0, 4],
+            };
             for (place, times) in given.iter().enumerate() {
-                assert!(if place == never { *times == 0 } else { *times >= least }, "direction {direction}: {given:?}");
+                assert!(if has.contains(&place) { *times >= least } else { *times == 0 }, "direction {direction}: {given:?}");
             }
         }
     }

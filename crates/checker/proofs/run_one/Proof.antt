@@ -1,7 +1,7 @@
 use Rattle.checker.proofs.Running.{commitment-refused, proof-refused, to-stop, to-leaf, leaf-inside, stop-inside}
 use borrow.Author.Needs.{needs}
-use Rattle.checker.proofs.run_known.Statement.{statement}
-use Rattle.checker.proofs.run_known.Tie as tie
+use Rattle.checker.proofs.run_one.Statement.{statement}
+use Rattle.checker.proofs.run_one.Tie as tie
 
 refused-run-requires : tie.Need-refused-run-requires
 refused-run-requires c κs = search needs
@@ -53,8 +53,8 @@ returns-4 c =
     (c .before .before .before .before .before .before .before .before .before .before .before .if1 .left) _ _
     (c .before .before .before .before .before .before .leaf .given .1) (c .before .before .check-found .ensures)
 
-pub run-known-spec : {M : Type 1} → statement M
-run-known-spec =
+pub run-one-spec : {M : Type 1} → statement M
+run-one-spec =
     tie.close
     (tie.spec
     refused-run-requires
