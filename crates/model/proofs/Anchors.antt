@@ -227,11 +227,19 @@ no-entity-first-incomplete complete = never (ok-inj (complete (log-bytes K) K K-
 
 -- ---- direction 6: lists that leave a version out
 
--- where no two different strings of the two lists share a hash, an accepted list is that of all the log's versions of s in the span
-pub full-list : {log : Bytes} {rs : List Record} → SoundLog log rs → (s t t2 : ℕ) → t ≤ t2 → (x : Bytes) → Octets x → (work out : ℕ) (a : Accepted)
-    → run-into 6 s t t2 (log-commitment rs) x work out ≡ ok a → NoCollision (log-hashed rs) (hashed-in-check version-only a)
-    → TrueList (graph rs) (spanned s t t2) (a .verdict)
-full-list l s t t2 h x o work out a r none = no-collision l 6 s t t2 (all (spanned s t t2)) (known-span s t t2 h) x o work out a r none .by-paths
+-- where no two different strings of the two lists share a hash, an accepted list is that of all the log's versions of s in the span, ...
+module _ {log : Bytes} {rs : List Record} (l : SoundLog log rs) (s t t2 : ℕ) (h : t ≤ t2) (x : Bytes) (o : Octets x) (work out : ℕ) (a : Accepted)
+    (r : run-into 6 s t t2 (log-commitment rs) x work out ≡ ok a) (none : NoCollision (log-hashed rs) (hashed-in-check version-only a))
+  where
+    list-faithful : Faithful (log-header rs) (graph rs) (all (spanned s t t2)) x a
+    list-faithful = no-collision l 6 s t t2 (all (spanned s t t2)) (known-span s t t2 h) x o work out a r none
+
+    pub full-list : TrueList (graph rs) (spanned s t t2) (a .verdict)
+    full-list = list-faithful .by-paths
+
+    -- ... and there are no records
+    pub list-without-records : a .records ≡ []
+    list-without-records = list-faithful .the-trace
 
 -- a check that gives these versions for 1, 10 to 40 on K, whatever it is handed: neither half holds unless they are 1 10 and 1 40
 pub fixed-list-incomplete : (vs : List VersionName) → (vs ≢ both-of-1) → Completeness (accept-all (Verdict.listed vs)) → ⊥

@@ -8,14 +8,14 @@ use native.Mathlib.Omega.{arith}
 use mathlib.Core.Bool.{Bool, not, cond}
 use mathlib.Core.List.{List, [], _∷_, _++_, map, map-append, append-assoc, append-nil, List·Memᴰ·head, List·Memᴰ·tail, List·Memᴰ·not-nil, List·Memᴰ·append-cases, List·Memᴰ·eq-of-singleton, Memᴰ·append-left, Memᴰ·append-right}
 use lib.ListN.{length, take, drop, getD, length-append}
-use lib.Seq.{drop-at, getD-take}
+use lib.Seq.{drop-at}
 use lib.Dec.{T, leb, eqb, eqb-refl, leb→le, le→leb, T-not}
 use lib.Pow.{pow-pos}
 use Rattle.model.specs.Result.{Result, ok, _>>=_}
 use Rattle.model.specs.Numbers.{Bytes, H, joined}
 use Rattle.model.specs.Accumulator.{letter-L, letter-N, L-width, branch-width, Subtree, branch-string, parent, Tree, tip, branch, Layout, subtree, string-of, strings-of, Leaf, leaf-string, VersionLeaf, versions-layout}
 use Rattle.model.specs.Question.{SpanQuestion, SearchEnd, OpenedAll, nothing-opened, open-all, within, VersionName, name-width, name-string}
-use Rattle.model.specs.CheckRows.{take-string, CheckedProof, stopped, subtree-in, leaf-in, CheckedAll, none-opened, opening-leaf, opening-both, path-limit, none-due, check-leaf, check-all, leaf-name, Named, at-end, an-L, an-N}
+use Rattle.model.specs.CheckRows.{take-string, CheckedProof, stopped, subtree-in, leaf-in, CheckedAll, none-opened, opening-leaf, opening-both, path-limit, none-due, check-leaf, check-all}
 use Rattle.model.specs.Exact.{Collision}
 use Rattle.model.proofs.Outcomes.{refuse≢ok, ok-inj, bind-ok, bind-eq, past, by-test, test, and-T, T-and, cond-T, cond-F}
 use Rattle.model.proofs.Strings.{joined-append, none, num, joined-length}
@@ -497,37 +497,6 @@ all-few opens =
 
 pub few-listed : (opens : Subtree → Bool) (k : Subtree) (pos : ℕ) (x : Bytes) (r : CheckedAll) → check-all opens path-limit k pos x ≡ ok r → length (r .leaves) ≤ 65536
 few-listed opens k pos x r e = all-few opens path-limit k pos x r e
-
--- ---- the names by the strings' letters alone: once a walk is accepted, they can be read from its bytes without keys or digests
-
-named-then : {x y z : Bytes} {vs ws : List VersionName} → Named x vs y → Named y ws z → Named x (vs ++ ws) z
-named-then (at-end x) m = m
-named-then {z = z} {ws = ws} (an-L x rest us e h n) m = an-L x z (us ++ ws) e h (named-then n m)
-named-then {z = z} {ws = ws} (an-N x rest us e h n) m = an-N x z (us ++ ws) e h (named-then n m)
-
-first-letter : (letter w : ℕ) (due : Bytes) (pos : ℕ) (x s : Bytes) → 0 < w → take-string letter w due pos x ≡ ok s → getD x 0 0 ≡ letter
-first-letter letter w due pos x s p e =
-    let t = taken letter w due pos x s p e in
-    sym (getD-take w x 0 0 p) ∙ ap (λ (l : Bytes). getD l 0 0) (sym (t .is)) ∙ t .starts
-
-leaf-named : (pos : ℕ) (x s due : Bytes) → take-string letter-L L-width due pos x ≡ ok s → Named x (leaf-name (leaf-in s) ∷ []) (drop L-width x)
-leaf-named pos x s due e =
-    let t = taken letter-L L-width due pos x s (omega arith) e in
-    subst (λ (z : Bytes). Named x (leaf-name (leaf-in z) ∷ []) (drop L-width x)) (sym (t .is))
-    (an-L x (drop L-width x) [] (first-letter letter-L L-width due pos x s (omega arith) e) (t .long) (at-end (drop L-width x)))
-
-both-named : (pos : ℕ) (x s due : Bytes) (a b : CheckedAll) → take-string letter-N branch-width due pos x ≡ ok s
-    → Named (drop branch-width x) (map leaf-name (a .leaves)) (a .rest) → Named (a .rest) (map leaf-name (b .leaves)) (b .rest)
-    → Named x (map leaf-name (a .leaves ++ b .leaves)) (b .rest)
-both-named pos x s due a b e f g =
-    an-N x (b .rest) _ (first-letter letter-N branch-width due pos x s (omega arith) e) (taken letter-N branch-width due pos x s (omega arith) e .long)
-    (subst (λ (vs : List VersionName). Named (drop branch-width x) vs (b .rest)) (sym (map-append leaf-name (a .leaves) (b .leaves)))
-    (named-then f g))
-
-pub all-named : (opens : Subtree → Bool) (n : ℕ) (k : Subtree) (pos : ℕ) (x : Bytes) (r : CheckedAll) → check-all opens n k pos x ≡ ok r → Named x (map leaf-name (r .leaves)) (r .rest)
-all-named opens =
-    accepted-all opens (λ n pos x r. Named x (map leaf-name (r .leaves)) (r .rest)) (λ n pos x. at-end x) (λ n pos x s due e. leaf-named pos x s due e)
-    (λ n pos x s due a b e f g. both-named pos x s due a b e f g)
 
 -- ---- the bytes of names
 

@@ -3,5 +3,6 @@ pub mod Strings
 mod Descents
 mod Walking
 mod Spans
+mod Naming
 pub mod Listing
 pub mod Ends

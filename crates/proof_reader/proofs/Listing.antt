@@ -11,10 +11,10 @@ use Rattle.fields.proofs.Places.{first-left, length-written, written-none, writ
 use Rattle.model.specs.Numbers.{Bytes, joined}
 use Rattle.model.specs.Question.{spanned, all, within, VersionName, name-string}
 use Rattle.model.specs.Result.{Result}
-use Rattle.model.specs.CheckRows.{CheckedProof, subtree-in, leaf-in, leaf-name, Named, at-end, an-L, an-N, proof-of-all, check-span, check-sought, check-proof}
+use Rattle.model.specs.CheckRows.{CheckedProof, subtree-in, leaf-in, leaf-name, proof-of-all, check-span, check-sought, check-proof}
 use Rattle.model.proofs.Outcomes.{bind-eq, bind-refused}
 use Rattle.model.proofs.Strings.{joined-append}
-use Rattle.model.proofs.Preorder.{few-listed, all-named, name-length, names-length}
+use Rattle.model.proofs.Preorder.{few-listed, name-length, names-length}
 use Rattle.proof_reader.specs.declared.EntitySearch.{EntitySearch}
 use Rattle.proof_reader.specs.declared.EntitySearch.the-variants.{NoEntity as ToNothing, Group as ToGroup, Refused as Unsought}
 use Rattle.proof_reader.specs.declared.Span.{Span}
@@ -22,8 +22,9 @@ use Rattle.proof_reader.specs.declared.Span.the-variants.{Read, Refused}
 use Rattle.proof_reader.specs.declared.ListProof.{ListProof}
 use Rattle.proof_reader.specs.declared.ListProof.the-variants.{NoEntity, Listed as ToList, Refused as Unlisted}
 use Rattle.proof_reader.specs.Walks.{sought-at, GoesOn, SearchIs}
-use Rattle.proof_reader.specs.Spans.{all-at, SpanIs, read, refused, ListStrings, ListIs, without, lists, unlisted, Listed}
+use Rattle.proof_reader.specs.Spans.{all-at, SpanIs, read, refused, Named, at-end, an-L, an-N, ListStrings, ListIs, without, lists, unlisted, Listed}
 use Rattle.proof_reader.proofs.Strings.{entity-at, time-at}
+use Rattle.proof_reader.proofs.Naming.{all-named}
 use Rattle.proof_reader.proofs.Walking.{search-refused, search-none, search-on}
 
 -- ---- one name

@@ -2,15 +2,15 @@
 -- as the place of its 48 bytes in the answer. Assumes nothing.
 use mathlib.Core.Path.{_≡_}
 use mathlib.Core.Bool.{Bool, true, false, _||_}
-use mathlib.Core.List.{List, map}
+use mathlib.Core.List.{List, [], _∷_, map}
 use Prim.Native.Nat.{ℕ, _+_, _*_, _≤_}
 use lib.Dec.{eqb, leb}
-use lib.ListN.{length, drop}
+use lib.ListN.{length, getD, take, drop}
 use Rattle.model.specs.Numbers.{Bytes}
 use Rattle.model.specs.Result.{Result, ok, refuse}
-use Rattle.model.specs.Accumulator.{letter-L, letter-N, L-width, Subtree, Leaf}
+use Rattle.model.specs.Accumulator.{letter-L, letter-N, L-width, branch-width, Subtree, Leaf}
 use Rattle.model.specs.Question.{SpanQuestion, no-entity, SearchEnd, within, VersionName, name-width}
-use Rattle.model.specs.CheckRows.{CheckedProof, subtree-in, CheckedAll, none-due, check-all, leaf-name, Named}
+use Rattle.model.specs.CheckRows.{CheckedProof, subtree-in, leaf-in, CheckedAll, none-due, check-all, leaf-name}
 use Rattle.proof_reader.specs.declared.Opening.{Opening}
 use Rattle.proof_reader.specs.declared.Opening.the-variants.{Refused as Unopened}
 use Rattle.proof_reader.specs.declared.Span.{Span}
@@ -59,6 +59,13 @@ counted-on count (Read at more) = Read at (count + more)
 counted-on count (Refused number position) = Refused number position
 
 -- ---- the proof of a list
+
+-- L and N strings one after the other, told apart by their letters alone: the versions that the L strings name in turn, and the bytes left
+pub data Named : Bytes → List VersionName → Bytes → Type 0 where
+  at-end : (x : Bytes) → Named x [] x
+  an-L : (x rest : Bytes) (vs : List VersionName) → getD x 0 0 ≡ letter-L → L-width ≤ length x → Named (drop L-width x) vs rest
+      → Named x (leaf-name (leaf-in (take L-width x)) ∷ vs) rest
+  an-N : (x rest : Bytes) (vs : List VersionName) → getD x 0 0 ≡ letter-N → branch-width ≤ length x → Named (drop branch-width x) vs rest → Named x vs rest
 
 -- the strings from byte `start` to byte `end`, which name the versions of these leaves in turn
 pub record ListStrings (answer : Bytes) (start end count : ℕ) : Type 0 where

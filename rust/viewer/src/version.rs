@@ -11,8 +11,8 @@ pub struct Version {
     pub time: u64,
 }
 
-/// The versions of a list, by rising time. Only [`check_span`](crate::check_span) makes one, from what the check wrote; so every version is whole,
-/// and the iterator never panics.
+/// The versions of a list, as the answer has them: under a log's commitment that is by rising time. Only [`check_span`](crate::check_span) makes
+/// one, from what the check wrote; so every version is whole, and the iterator never panics.
 #[derive(Clone, Debug)]
 pub struct Versions<'a> {
     list: &'a [[u8; VERSION]],

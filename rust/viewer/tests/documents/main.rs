@@ -1,5 +1,5 @@
-//! What the documents say of the repository is so: what they name is there, what they quote stands word for word in the document that it is
-//! quoted from, their links lead somewhere, and their tables are whole.
+//! What the documents say of the repository is so: what they name is there, every wrong version is named, what they quote stands word for word
+//! in the document that it is quoted from, their links lead somewhere, and their tables are whole.
 
 mod markdown;
 mod names;
@@ -16,6 +16,9 @@ use repository::Repository;
 const PROMISES: &str = "docs/PROMISES.md";
 const SCOPE: &str = "docs/01-scope.md";
 const REQUESTS: &str = "docs/02-change-requests.md";
+
+/// The heading of the promises' table of wrong versions.
+const WRONG_VERSIONS: &str = "Wrong versions that are refused";
 
 /// What stands at the root and is no folder of a build.
 const PARTS: [&str; 13] =
@@ -53,6 +56,40 @@ fn the_promises_name_what_is_there() {
     assert!(found.names > 1_000, "{} names", found.names);
     for word in NO_NAMES {
         assert!(repository.text(PROMISES).contains(&format!("`{word}`")), "{word} stands in the promises no more");
+    }
+}
+
+/// The wrong versions of which no row of the promises' table has both the name and the crate.
+fn unnamed(repository: &Repository) -> Vec<&str> {
+    let passages = passages(repository.text(PROMISES));
+    let rows = || passages.iter().filter(|passage| passage.heading == WRONG_VERSIONS && passage.cells.len() == 2);
+    let is_named = |path: &str| {
+        let parts: Vec<&str> = path.split('/').collect();
+        let (owner, name) = (parts[1], format!("`{}`", parts[3].trim_end_matches(".edit")));
+        let is_of = |what: &str| what.contains(&format!("`{owner}::")) || what.contains(&format!("`{owner}`"));
+        rows().any(|row| is_of(&row.cells[0]) && row.cells[1].contains(&name))
+    };
+    repository.below("crates").filter(|path| path.ends_with(".edit") && !is_named(path)).collect()
+}
+
+#[test]
+fn the_promises_name_every_wrong_version() {
+    let repository = repository();
+    let unnamed = unnamed(&repository);
+    assert!(unnamed.is_empty(), "{PROMISES}:\n{}", unnamed.join("\n"));
+}
+
+#[test]
+fn an_unnamed_wrong_version_is_reported() {
+    let unnamed_by = |row: &str| {
+        let promises = format!("## {WRONG_VERSIONS}\n\n| what | wrong versions |\n|---|---|\n{row}\n");
+        unnamed(&Repository::of(&[(PROMISES, &promises), ("crates/log/must-fail/late.edit", "")])).len()
+    };
+    for named in ["| `log::read` | `late` |", "| definitions of `log` | `early`, `late` |"] {
+        assert_eq!(unnamed_by(named), 0, "{named}");
+    }
+    for row in ["| `log::read` | `later` |", "| `model` | `late` |", "| `late` | `log` |", ""] {
+        assert_eq!(unnamed_by(row), 1, "{row}");
     }
 }
 
@@ -104,15 +141,49 @@ fn the_promises_quote_word_for_word() {
 /// Sentences of document 01 that define and promise nothing.
 const NO_PROMISES: [&str; 2] = ["We read the code and also the proofs.", "Marked :"];
 
+/// What the promises quote under the headings that are taken.
+fn quoted_under(promises: &[Passage], is_taken: impl Fn(&str) -> bool) -> Vec<String> {
+    let cells = promises.iter().filter(|passage| is_taken(&passage.heading)).flat_map(|passage| &passage.cells);
+    cells.filter_map(|cell| quotations(cell)).flatten().map(|quotation| quotation.text.to_string()).collect()
+}
+
 #[test]
 fn the_promises_quote_every_sentence_of_document_01() {
     let repository = repository();
-    let promises = passages(repository.text(PROMISES));
-    let cells = promises.iter().flat_map(|passage| &passage.cells);
-    let quoted: Vec<String> = cells.filter_map(|cell| quotations(cell)).flatten().map(|quotation| quotation.text.to_string()).collect();
+    let quoted = quoted_under(&passages(repository.text(PROMISES)), |_| true);
     let document = passages(repository.text(SCOPE)).into_iter().filter(|passage| passage.cells.len() == 1);
     let paragraphs: Vec<String> = document.flat_map(|passage| passage.cells).collect();
     assert_eq!(unquoted_sentences(&paragraphs, &quoted), NO_PROMISES);
+}
+
+/// The sentences of a request that no row under its heading quotes; its title is none.
+fn unquoted_of_request(promises: &[Passage], request: &str) -> Vec<String> {
+    let (title, text) = request.trim_start_matches("**").split_once(".** ").expect("a title");
+    let number = title.split('.').next().expect("a number");
+    let quoted = quoted_under(promises, |heading| heading.starts_with(&format!("{number}:")));
+    unquoted_sentences(&[text.to_string()], &quoted)
+}
+
+/// A request has landed if `docs/changes` tells of it.
+#[test]
+fn the_promises_quote_every_sentence_of_the_requests_landed() {
+    let repository = repository();
+    let promises = passages(repository.text(PROMISES));
+    let requests: Vec<String> = passages(repository.text(REQUESTS)).into_iter().map(|mut passage| passage.cells.remove(0)).collect();
+    let landed: Vec<&str> = repository.below("docs/changes").map(|path| path["docs/changes/".len()..].trim_end_matches(".md")).collect();
+    assert!(landed.contains(&"A1") && landed.contains(&"A2"), "{landed:?}");
+    for number in landed {
+        let request = requests.iter().find(|request| request.starts_with(&format!("**{number}. "))).expect(number);
+        assert_eq!(unquoted_of_request(&promises, request), Vec::<String>::new(), "{number}");
+    }
+}
+
+#[test]
+fn an_unquoted_sentence_of_a_request_is_reported() {
+    let request = "**A1. Looking ahead.** Six directions. No t + 1.";
+    let unquoted = |rows: &str| unquoted_of_request(&passages(&format!("### A1: ahead\n\n{rows}\n\n### A2: spans\n\n\"No t + 1.\"\n")), request);
+    assert_eq!(unquoted("\"Six directions.\" and \"No t + 1.\""), Vec::<String>::new());
+    assert_eq!(unquoted("\"Six directions.\""), ["No t + 1."]);
 }
 
 #[test]
