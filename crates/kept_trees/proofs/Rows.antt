@@ -118,32 +118,26 @@ unfolding entities-row entity-known
 leaf-entity row m r g x v k e p q f VK = f ∙ ap₂ group-leaf p (q (subst (λ (x : Row). Ready x m r) e VK)) ∙ ap (λ (x : Row). row-of x m r .leaf g) (sym e)
 
 -- an entity's leaves stand together
-count-is : (m : Bytes) (r : Ranks) (g f t : ℕ) → f ≡ first-in m r g → t ≡ first-in m r (g + 1) → t - f ≡ count-in m r g
-unfolding count-in
-count-is m r g f t p q = ap₂ _-_ q p
-
-pub versions-within : (m : Bytes) (r : Ranks) (R : Ranked m r) (g f t : ℕ) → g < r .entities → f ≡ first-in m r g → t ≡ first-in m r (g + 1) → Within Versions r f (t - f)
-versions-within m r R g f t h p q =
+pub versions-within : (m : Bytes) (r : Ranks) (R : Ranked m r) (g f n : ℕ) → g < r .entities → f ≡ first-in m r g → n ≡ count-in m r g → Within Versions r f n
+versions-within m r R g f n h p q =
     let a = some-versions m r R g h in
     let b = count-inside m r R g h in
-    let c = count-is m r g f t p q in
     record { some = omega arith; inside = omega arith }
 
 -- what the table says of an entity's tree
-pub versions-one : (m : Bytes) (r : Ranks) (g f t : ℕ) (k : Known) → f ≡ first-in m r g → t ≡ first-in m r (g + 1) → 0 < t - f → t - f ≤ 1 → k ≡ version-known m f
+pub versions-one : (m : Bytes) (r : Ranks) (g f n : ℕ) (k : Known) → f ≡ first-in m r g → n ≡ count-in m r g → 0 < n → n ≤ 1 → k ≡ version-known m f
     → k ≡ tree-of (versions-row m) (first-in m r g) (count-in m r g)
-versions-one m r g f t k p q some h e =
+versions-one m r g f n k p q some h e =
     version-leaf-read m f k e
-    ∙ sym (tree-leaf (versions-row m) f (t - f) some h)
-    ∙ ap₂ (tree-of (versions-row m)) p (count-is m r g f t p q)
+    ∙ sym (tree-leaf (versions-row m) f n some h)
+    ∙ ap₂ (tree-of (versions-row m)) p q
 
-pub versions-two : (m : Bytes) (r : Ranks) (g f t j : ℕ) (k : Known) → g < r .entities → f ≡ first-in m r g → t ≡ first-in m r (g + 1) → 1 < t - f → j ≡ largest-power-below (t - f)
-    → k ≡ node-kept (versions-row m) m f (t - f) j → VersionsKept m r → k ≡ tree-of (versions-row m) (first-in m r g) (count-in m r g)
-versions-two m r g f t j k h p q more split e VK =
-    let c = count-is m r g f t p q in
-    let T : KeptTree (versions-row m) m f (t - f) = subst (λ (x : ℕ). KeptTree (versions-row m) m x (t - f)) (sym p) (subst (KeptTree (versions-row m) m (first-in m r g)) (sym c) (VK .kept g h)) in
-    node-is (versions-row m) m f (t - f) j more split k e T
-    ∙ ap₂ (tree-of (versions-row m)) p c
+pub versions-two : (m : Bytes) (r : Ranks) (g f n j : ℕ) (k : Known) → g < r .entities → f ≡ first-in m r g → n ≡ count-in m r g → 1 < n → j ≡ largest-power-below n
+    → k ≡ node-kept (versions-row m) m f n j → VersionsKept m r → k ≡ tree-of (versions-row m) (first-in m r g) (count-in m r g)
+versions-two m r g f n j k h p q more split e VK =
+    let T : KeptTree (versions-row m) m f n = subst (λ (x : ℕ). KeptTree (versions-row m) m x n) (sym p) (subst (KeptTree (versions-row m) m (first-in m r g)) (sym q) (VK .kept g h)) in
+    node-is (versions-row m) m f n j more split k e T
+    ∙ ap₂ (tree-of (versions-row m)) p q
 
 -- ---- what stays when other columns change
 
@@ -322,25 +316,25 @@ keep-two row w w1 w2 w3 r i n k s letter a b t R I more split K1 A K2 B el et es
 -- ---- all trees
 
 -- one entity's tree more
-pub entity-kept : (w w′ : Bytes) (r : Ranks) (g f t : ℕ) (k : Known) → Ranked w r → g < r .entities → f ≡ first-in w r g → t ≡ first-in w r (g + 1)
-    → Kept (columns 84 116 ∷ []) w w′ → Keeping (versions-row w) w w′ f (t - f) k → EntityKept w w′ r g
-entity-kept w w′ r g f t k R h p q K A =
+pub entity-kept : (w w′ : Bytes) (r : Ranks) (g f n : ℕ) (k : Known) → Ranked w r → g < r .entities → f ≡ first-in w r g → n ≡ count-in w r g
+    → Kept (columns 84 116 ∷ []) w w′ → Keeping (versions-row w) w w′ f n k → EntityKept w w′ r g
+entity-kept w w′ r g f n k R h p q K A =
     record {
       kept = K;
-      here = entity-moves (columns 84 116 ∷ []) w w′ K digests-beside r g (subst (KeptTree (versions-row w) w′ (first-in w r g)) (count-is w r g f t p q) (subst (λ (x : ℕ). KeptTree (versions-row w) w′ x (t - f)) p (A .tree-kept)));
+      here = entity-moves (columns 84 116 ∷ []) w w′ K digests-beside r g (subst (KeptTree (versions-row w) w′ (first-in w r g)) q (subst (λ (x : ℕ). KeptTree (versions-row w) w′ x n) p (A .tree-kept)));
       others = λ x a b T.
           entity-stays (columns 84 116 ∷ []) w w′ K digests-beside r x (some-versions w r R x a) (λ j c d. A .others j (λ y s u v. apart x j y a b c (omega (arith, ends-with w r R x a)) s u (v ∙ sym (version-slot w y)))) T;
     }
   where
     -- a rank behind the first of another entity's is none of this one's
-    apart : (x j y : ℕ) → x < r .entities → (x ≡ g → ⊥) → first-in w r x < j → j < first-in w r (x + 1) → f < y → y < f + (t - f) → j ≡ y → ⊥
+    apart : (x j y : ℕ) → x < r .entities → (x ≡ g → ⊥) → first-in w r x < j → j < first-in w r (x + 1) → f < y → y < f + n → j ≡ y → ⊥
     apart x j y a b c d s u v =
+        let l = ends-with w r R g h in
         ⊎-elim
         (λ (z : x ≤ g).
-        ⊎-elim (λ (o : x + 1 < g). let m = R .rise (x + 1) g o (omega arith) in omega arith) (λ (o : g ≤ x + 1). let m = ap (first-in w r) (let n : x + 1 ≡ g = omega (arith, b) in n) in omega arith) (lt-or-le (x + 1) g))
+        ⊎-elim (λ (o : x + 1 < g). let m = R .rise (x + 1) g o (omega arith) in omega arith) (λ (o : g ≤ x + 1). let m = ap (first-in w r) (let z : x + 1 ≡ g = omega (arith, b) in z) in omega arith) (lt-or-le (x + 1) g))
         (λ (z : g < x).
-        let l = R .rise g (g + 1) (omega arith) (omega arith) in
-        ⊎-elim (λ (o : g + 1 < x). let m = R .rise (g + 1) x o (omega arith) in omega arith) (λ (o : x ≤ g + 1). let m = ap (first-in w r) (let n : g + 1 ≡ x = omega arith in n) in omega arith) (lt-or-le (g + 1) x))
+        ⊎-elim (λ (o : g + 1 < x). let m = R .rise (g + 1) x o (omega arith) in omega arith) (λ (o : x ≤ g + 1). let m = ap (first-in w r) (let z : g + 1 ≡ x = omega arith in z) in omega arith) (lt-or-le (g + 1) x))
         (le-or-lt x g)
 
 -- the trees of the first g entities

@@ -124,7 +124,7 @@ pub fn versions_tree(work: &[u8], ranks: Ranks, g: usize, constants: &[u32; 64])
     ensures { λ r. ⌜ (VersionsKept (now (work .entry)) ranks → known (r .0) ≡ tree-of (versions-row (now (work .entry))) (first-in (now (work .entry)) ranks g) (count-in (now (work .entry)) ranks g)) ⌝ }
 {
     let from = ranks::first_at(work, ranks, g);
-    let n = ranks::first_at(work, ranks, g + 1) - from;
+    let n = ranks::count_at(work, ranks, g);
     if n <= 1 {
         return VersionTree(version_at(work, ranks, from, constants));
     }
@@ -198,7 +198,7 @@ fn keep_entity(work: &mut [u8], ranks: Ranks, g: usize, constants: &[u32; 64])
     ensures { λ _. ⌜ EntityKept (now (work .entry)) (now (work .exit)) ranks g ⌝ }
 {
     let from = ranks::first_at(work, ranks, g);
-    let n = ranks::first_at(work, ranks, g + 1) - from;
+    let n = ranks::count_at(work, ranks, g);
     keep(Row::Versions, work, ranks, from, n, constants);
 }
 

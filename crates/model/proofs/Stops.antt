@@ -1,6 +1,6 @@
 -- Where the walk through a sound log's trees stops in the tree of the entity asked: where no version of it meets the time, and the key that
 -- is handed upward is the time of the entity's first version, or of its last. Assumes nothing.
-use mathlib.Core.Path.{_≡_, refl, sym, ap, _∙_, subst}
+use mathlib.Core.Path.{_≡_, refl, sym, ap, _∙_}
 use Prim.Native.Nat.{ℕ, zero, suc}
 use native.Mathlib.Omega.{arith}
 use mathlib.Core.Bool.{true}
@@ -13,7 +13,7 @@ use Rattle.model.specs.Accumulator.{Subtree, VersionLeaf}
 use Rattle.model.specs.Question.{Relation, at-or-before, at-or-after, Part, VersionQuestion, one, Stop, no-entity, not-yet, none-so-late, unmet, SearchEnd, by-time, Verdict}
 use Rattle.model.specs.Answer.{proof, log-header}
 use Rattle.model.specs.CheckRows.{stopped, check-tree, check-versions}
-use Rattle.model.specs.Exact.{IsSought, IsOutermost, TrueVersion, is-found, is-no-entity, is-unmet, true-verdict, SoundLog}
+use Rattle.model.specs.Exact.{IsSought, IsOutermost, TrueVersion, is-found, is-no-entity, is-unmet, SoundLog}
 use Rattle.model.proofs.LogGraph.{well-formed}
 use Rattle.model.proofs.Verdicts.{true-verdict-holds, true-verdict-only}
 use Rattle.model.proofs.Truth.{verdict-by, walk-verdict}

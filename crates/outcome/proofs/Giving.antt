@@ -10,7 +10,6 @@ use Rattle.model.specs.Numbers.{Bytes}
 use Rattle.model.specs.Result.{Result, ok, refuse, _>>=_, need}
 use Rattle.model.specs.Calls.{output-after, fitting}
 use Rattle.model.proofs.Outcomes.{pass}
-use Rattle.outcome.specs.declared.Writing.{Writing}
 use Rattle.outcome.specs.declared.Writing.the-variants.{Written, Refused}
 use Rattle.outcome.specs.Outcomes.{given, Gives}
 

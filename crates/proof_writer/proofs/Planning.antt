@@ -47,39 +47,33 @@ slots-at work i zero j h = absurd (let z : ⊥ = omega arith in z)
 slots-at work i (suc n) zero h = ap (slot-at work) (let z : i ≡ i + 0 = omega arith in z)
 slots-at work i (suc n) (suc j) h = slots-at work (suc i) n j (omega arith) ∙ ap (slot-at work) (let z : suc i + j ≡ i + suc j = omega arith in z)
 
-module _ (work : Bytes) (n : ℕ) (ns : List VersionNode) (G : Graphed work n ns) (p : EntityPath) (I : PathIs work ns p) (f t : ℕ) (first : f ≡ first-in work (p .ranks) (p .target)) (next : t ≡ first-in work (p .ranks) (p .target + 1)) where
+module _ (work : Bytes) (n : ℕ) (ns : List VersionNode) (G : Graphed work n ns) (p : EntityPath) (I : PathIs work ns p) (f c : ℕ) (first : f ≡ first-in work (p .ranks) (p .target)) (number : c ≡ count-in work (p .ranks) (p .target)) where
   abbrev x : ℕ
   x = reached-entity ns p
 
-  count-is : t - f ≡ count-in work (p .ranks) (p .target)
-  unfolding count-in
-  count-is = ap₂ _-_ next first
-
   -- the entity's leaves
-  pub reached-leaves : stretch (versions-row work) f (t - f) ≡ own versions-layout (versions ns x)
-  reached-leaves = ap₂ (stretch (versions-row work)) first count-is ∙ versions-are work ns (G .digested) (p .ranks) (I .ranked) (p .target) (I .inside)
+  pub reached-leaves : stretch (versions-row work) f c ≡ own versions-layout (versions ns x)
+  reached-leaves = ap₂ (stretch (versions-row work)) first number ∙ versions-are work ns (G .digested) (p .ranks) (I .ranked) (p .target) (I .inside)
 
-  pub reached-number : t - f ≡ length (versions ns x)
-  reached-number = count-is ∙ versions-number work ns (G .digested) (p .ranks) (I .ranked) (p .target) (I .inside)
+  pub reached-number : c ≡ length (versions ns x)
+  reached-number = number ∙ versions-number work ns (G .digested) (p .ranks) (I .ranked) (p .target) (I .inside)
 
-  pub reached-range : (f ≤ t) × (0 < t - f) × (f + (t - f) ≤ p .ranks .versions)
+  pub reached-range : (0 < c) × (f + c ≤ p .ranks .versions)
   reached-range =
       let R = I .ranked .ranked in
       let a = some-versions work (p .ranks) R (p .target) (I .inside) in
       let b = count-inside work (p .ranks) R (p .target) (I .inside) in
-      let c = count-is in
-      (omega arith, omega arith, omega arith)
+      (omega arith, omega arith)
 
   -- their tree is kept
-  pub reached-kept : KeptTree (versions-row work) work f (t - f)
+  pub reached-kept : KeptTree (versions-row work) work f c
   reached-kept =
-      subst (λ (k : ℕ). KeptTree (versions-row work) work k (t - f)) (sym first)
-      (subst (KeptTree (versions-row work) work (first-in work (p .ranks) (p .target))) (sym count-is) (I .kept .versions .kept (p .target) (I .inside)))
+      subst (λ (k : ℕ). KeptTree (versions-row work) work k c) (sym first)
+      (subst (KeptTree (versions-row work) work (first-in work (p .ranks) (p .target))) (sym number) (I .kept .versions .kept (p .target) (I .inside)))
 
   -- the version at a place among them
-  reached-version : (j slot : ℕ) → j < t - f → slot ≡ slot-at work (f + j) → getD (versions ns x) j no-leaf ≡ version-at ns slot
+  reached-version : (j slot : ℕ) → j < c → slot ≡ slot-at work (f + j) → getD (versions ns x) j no-leaf ≡ version-at ns slot
   reached-version j slot h e =
-      let c = count-is in
       ap (λ (vs : List VersionLeaf). getD vs j no-leaf) (sym (I .ranked .versions-are (p .target) (I .inside)))
       ∙ map-at (version-at ns) (slots-in work (first-in work (p .ranks) (p .target)) (count-in work (p .ranks) (p .target))) j no-leaf 0 (omega (arith, slots-length work (first-in work (p .ranks) (p .target)) (count-in work (p .ranks) (p .target))))
       ∙ ap (version-at ns) (slots-at work (first-in work (p .ranks) (p .target)) (count-in work (p .ranks) (p .target)) j (omega arith) ∙ ap (λ (k : ℕ). slot-at work (k + j)) (sym first) ∙ sym e)
@@ -91,10 +85,10 @@ module _ (work : Bytes) (n : ℕ) (ns : List VersionNode) (G : Graphed work n ns
     name : x ≡ q .entity
     name = R .name
 
-    way-is : (w : Way) → w .target < t - f → w .depth ≤ t - f → length (joined (version-path ns x w)) ≡ 97 * w .depth → WayIs ns (q .entity) p w
+    way-is : (w : Way) → w .target < c → w .depth ≤ c → length (joined (version-path ns x w)) ≡ 97 * w .depth → WayIs ns (q .entity) p w
     way-is w h g e =
         subst (λ (y : ℕ). WayIs ns y p w) name
-        (record { name = refl; inside = omega (arith, reached-number); shallow = omega (arith, reached-range .2, I .ranked .ranked .few); long = e })
+        (record { name = refl; inside = omega (arith, reached-number); shallow = omega (arith, reached-range .1, I .ranked .ranked .few); long = e })
 
     -- what is opened of the entity's tree
     inside-is : (w : Opened) → open-versions (q .relation) (q .time) (tree no-leaf (versions ns x)) ≡ w
@@ -108,7 +102,7 @@ module _ (work : Bytes) (n : ℕ) (ns : List VersionNode) (G : Graphed work n ns
     abbrev opened-behind : List Bytes → SearchEnd VersionLeaf → Opened
     opened-behind ss e = record { end = e; opened = entity-path ns p ++ (entity-string ns (q .entity) ∷ ss) }
 
-    pub plan-unmet : (size target depth : ℕ) → target < t - f → depth ≤ t - f
+    pub plan-unmet : (size target depth : ℕ) → target < c → depth ≤ c
         → StoppedAt versions-layout (by-time (q .relation) (q .time)) opens no-leaf (versions ns x) target depth
         → size ≡ 122 + 97 * p .depth + 97 * depth → PlanIs work ns (one q) (Unmet size p (record { target = target; depth = depth }))
     unfolding path-of RestIs strings-of EndIs onto version-path open-versions
@@ -125,14 +119,14 @@ module _ (work : Bytes) (n : ℕ) (ns : List VersionNode) (G : Graphed work n ns
               ∙ ap (λ (ss : List Bytes). opened-behind ss end) (append-nil (version-path ns x w) ∙ ap (λ (y : ℕ). version-path ns y w) name);
         }
 
-    pub plan-found : (size target depth slot : ℕ) → target < t - f → depth ≤ t - f → slot ≡ slot-at work (f + target)
+    pub plan-found : (size target depth slot : ℕ) → target < c → depth ≤ c → slot ≡ slot-at work (f + target)
         → ReachedAt versions-layout (by-time (q .relation) (q .time)) opens no-leaf (versions ns x) target depth
         → size ≡ 122 + 97 * p .depth + (97 * depth + 77) → PlanIs work ns (one q) (Found size p (record { target = target; depth = depth }) slot)
     unfolding path-of RestIs strings-of EndIs onto version-path open-versions
     plan-found size target depth slot h g z S e =
         let w : Way = record { target = target; depth = depth } in
         let v = reached-version target slot h z in
-        let i : f + target < p .ranks .versions = omega (arith, reached-range .2) in
+        let i : f + target < p .ranks .versions = omega (arith, reached-range .1) in
         record {
           path = I;
           rest = (way-is w h g (S .walked .long), subst (λ (k : ℕ). k < length ns) (sym z) (I .ranked .inside (f + target) i), e);
@@ -145,21 +139,21 @@ module _ (work : Bytes) (n : ℕ) (ns : List VersionNode) (G : Graphed work n ns
 
   -- all of its versions between two times
   module _ (s : Declared) where
-    listed-in : span-strings ns work (spanOf s) f (t - f) ≡ listed-strings ns x (spanOf s)
+    listed-in : span-strings ns work (spanOf s) f c ≡ listed-strings ns x (spanOf s)
     unfolding span-strings listed-strings
     listed-in =
         ap (λ (vs : List VersionLeaf). open-all versions-layout (within (spanOf s)) (tree no-leaf vs) .opened)
-        (ap₂ (λ (i n : ℕ). map (version-at ns) (slots-in work i n)) first count-is ∙ I .ranked .versions-are (p .target) (I .inside))
+        (ap₂ (λ (i n : ℕ). map (version-at ns) (slots-in work i n)) first number ∙ I .ranked .versions-are (p .target) (I .inside))
 
-    pub list-put : (out out1 : Bytes) (at : ℕ) → out1 ≡ written out at (joined (span-strings ns work (spanOf s) f (t - f))) → out1 ≡ written out at (joined (listed-strings ns x (spanOf s)))
+    pub list-put : (out out1 : Bytes) (at : ℕ) → out1 ≡ written out at (joined (span-strings ns work (spanOf s) f c)) → out1 ≡ written out at (joined (listed-strings ns x (spanOf s)))
     list-put out out1 at e = e ∙ ap (λ (ss : List Bytes). written out at (joined ss)) listed-in
 
     -- room for them
     pub list-space : (room room′ : ℕ) → 122 + 97 * p .depth + length (joined (listed-strings ns x (spanOf s))) ≤ room → room′ ≡ room
-        → 122 + 97 * p .depth + length (joined (span-strings ns work (spanOf s) f (t - f))) ≤ room′
+        → 122 + 97 * p .depth + length (joined (span-strings ns work (spanOf s) f c)) ≤ room′
     list-space room room′ h e = omega (arith, ap (λ (ss : List Bytes). length (joined ss)) listed-in)
 
-    pub plan-listed : Reaches work ns (all (spanOf s)) p → (size : ℕ) → size ≡ 122 + 97 * p .depth + length (joined (span-strings ns work (spanOf s) f (t - f))) → PlanIs work ns (all (spanOf s)) (Listed size p s)
+    pub plan-listed : Reaches work ns (all (spanOf s)) p → (size : ℕ) → size ≡ 122 + 97 * p .depth + length (joined (span-strings ns work (spanOf s) f c)) → PlanIs work ns (all (spanOf s)) (Listed size p s)
     unfolding path-of RestIs strings-of EndIs onto open-sought open-span listed-strings group versions
     plan-listed R size e =
         record {

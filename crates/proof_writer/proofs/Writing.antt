@@ -135,13 +135,13 @@ module _ (work : Bytes) (n : ℕ) (ns : List VersionNode) (G : Graphed work n ns
   -- ---- N
 
   module _ (w : Way) where
-    pub versions-is : (f t at : ℕ) (out out1 : Bytes) → f ≡ first-in work (p .ranks) (p .target) → t ≡ first-in work (p .ranks) (p .target + 1)
-        → WayPut (versions-row work) f (t - f) (f + w .target - f) (w .depth) out out1 at → out1 ≡ written out at (joined (version-path ns x w))
+    pub versions-is : (f c at : ℕ) (out out1 : Bytes) → f ≡ first-in work (p .ranks) (p .target) → c ≡ count-in work (p .ranks) (p .target)
+        → WayPut (versions-row work) f c (f + w .target - f) (w .depth) out out1 at → out1 ≡ written out at (joined (version-path ns x w))
     unfolding version-path
-    versions-is f t at out out1 a b P =
+    versions-is f c at out out1 a b P =
         P .strings
         ∙ ap (λ (ss : List Bytes). written out at (joined ss))
-        (ap₂ (λ (l : ℕ) (ks : List Known). path-to l ks (f + w .target - f) (w .depth)) (versions-letter work) (reached-leaves work n ns G p I f t a b)
+        (ap₂ (λ (l : ℕ) (ks : List Known). path-to l ks (f + w .target - f) (w .depth)) (versions-letter work) (reached-leaves work n ns G p I f c a b)
         ∙ ap (λ (i : ℕ). path-to 0x4e (own versions-layout (versions ns x)) i (w .depth)) (let z : f + w .target - f ≡ w .target = omega arith in z))
 
     module _ (Q : WayIs ns x p w) where

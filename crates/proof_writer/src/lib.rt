@@ -32,7 +32,7 @@ ghost use Rattle.graph.specs.Table.{columns, Kept};
 ghost use Rattle.accumulator.specs.Trees.{headerOf};
 ghost use Rattle.accumulator.specs.Halves.{own};
 ghost use Rattle.trees.specs.Tables.{Graphed, HasGraph, version-at};
-ghost use Rattle.ranks.specs.Ranked.{Ranked, RankedAs};
+ghost use Rattle.ranks.specs.Ranked.{first-in, count-in, Ranked, RankedAs};
 ghost use Rattle.kept_trees.specs.declared.Row.the-variants.{Versions, Entities};
 ghost use Rattle.kept_trees.specs.Leaves.{stretch, tree-of, versions-row, entities-row, row-of, size-of};
 ghost use Rattle.proof_writer.specs.Walks.{queryOf, descentOf, rowOf, LeafOf, layout-of, none-of, Among, half-of, SoughtIs, Leads};
@@ -342,14 +342,25 @@ pub enum Planned {
     },
 }
 
+// The versions of the entity that a path leads to.
+fn reached_versions(work: &[u8], path: EntityPath) -> Stretch
+    requires { ⌜ Ranked (now work) (path .ranks) × (path .target < path .ranks .entities) ⌝ }
+    ensures from { λ r. ⌜ r .from ≡ first-in (now (work .entry)) (path .ranks) (path .target) ⌝ }
+    ensures number { λ r. ⌜ r .n ≡ count-in (now (work .entry)) (path .ranks) (path .target) ⌝ }
+{
+    let ranks = path.ranks;
+    let from = ranks::first_at(work, ranks, path.target);
+    let n = ranks::count_at(work, ranks, path.target);
+    Stretch { from: from, n: n }
+}
+
 // The plan from the entity's leaf on.
 fn plan_versions(work: &[u8], n: usize, path: EntityPath, question: Question) -> Planned
     requires { ⌜ HasPath (now work) n path ⌝ }
     ensures { λ r. ⌜ ((ns : List VersionNode) → Graphed (now (work .entry)) n ns → Reaches (now (work .entry)) ns (model.one (questionOf question)) path → PlanIs (now (work .entry)) ns (model.one (questionOf question)) r) ⌝ }
 {
     let ranks = path.ranks;
-    let from = ranks::first_at(work, ranks, path.target);
-    let count = ranks::first_at(work, ranks, path.target + 1) - from;
+    let leaves = reached_versions(work, path);
     let length = R_G_WIDTH + BRANCH_WIDTH * path.depth;
     let relation = question.relation;
     let time = question.time;
@@ -357,7 +368,7 @@ fn plan_versions(work: &[u8], n: usize, path: EntityPath, question: Question) ->
         relation: relation,
         time: time,
     };
-    match seek(descent, work, ranks, from, count) {
+    match seek(descent, work, ranks, leaves.from, leaves.n) {
         Sought::Stopped { target, depth } => Planned::Unmet {
             length: length + BRANCH_WIDTH * depth,
             path: path,
@@ -373,7 +384,7 @@ fn plan_versions(work: &[u8], n: usize, path: EntityPath, question: Question) ->
                 target: target,
                 depth: depth,
             },
-            slot: ranks::slot_at(work, from + target),
+            slot: ranks::slot_at(work, leaves.from + target),
         },
     }
 }
@@ -384,12 +395,7 @@ fn plan_span(work: &[u8], n: usize, path: EntityPath, span: SpanQuestion) -> Pla
     ensures { λ r. ⌜ ((ns : List VersionNode) → Graphed (now (work .entry)) n ns → Reaches (now (work .entry)) ns (model.all (spanOf span)) path → PlanIs (now (work .entry)) ns (model.all (spanOf span)) r) ⌝ }
 {
     let ranks = path.ranks;
-    let from = ranks::first_at(work, ranks, path.target);
-    let count = ranks::first_at(work, ranks, path.target + 1) - from;
-    let leaves = Stretch {
-        from: from,
-        n: count,
-    };
+    let leaves = reached_versions(work, path);
     let length = R_G_WIDTH + BRANCH_WIDTH * path.depth;
     Planned::Listed {
         length: length + span_length(work, ranks, leaves, span),
@@ -540,15 +546,14 @@ fn put_versions(
     ensures { λ _. ⌜ ((ns : List VersionNode) → Graphed (now (work .entry)) n ns → PathIs (now (work .entry)) ns path → now (out .exit) ≡ written (now (out .entry)) at (joined (version-path ns (reached-entity ns path) way))) ⌝ }
 {
     let ranks = path.ranks;
-    let from = ranks::first_at(work, ranks, path.target);
-    let count = ranks::first_at(work, ranks, path.target + 1) - from;
+    let leaves = reached_versions(work, path);
     kept_trees::put_way(
         Row::Versions,
         work,
         ranks,
-        from,
-        count,
-        from + way.target,
+        leaves.from,
+        leaves.n,
+        leaves.from + way.target,
         way.depth,
         out,
         at,
@@ -643,12 +648,7 @@ fn put_listed(
 {
     put_entity(work, n, header, path, out, constants);
     let ranks = path.ranks;
-    let from = ranks::first_at(work, ranks, path.target);
-    let count = ranks::first_at(work, ranks, path.target + 1) - from;
-    let leaves = Stretch {
-        from: from,
-        n: count,
-    };
+    let leaves = reached_versions(work, path);
     let at = R_G_WIDTH + BRANCH_WIDTH * path.depth;
     put_span(work, n, ranks, leaves, span, out, at, constants);
 }

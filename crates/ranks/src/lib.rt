@@ -12,7 +12,7 @@ ghost use Rattle.fields.specs.Fields.{encode, written};
 ghost use Rattle.model.specs.Graph.{VersionNode, node-at};
 ghost use Rattle.graph.specs.Table.{slot-width, Slot, time-in, columns, Kept};
 ghost use Rattle.trees.specs.Tables.{Graphed, HasGraph};
-ghost use Rattle.ranks.specs.Ranked.{slot-at, first-in, entity-at, Ranked, RankedAs, Unranked, VersionsRanked};
+ghost use Rattle.ranks.specs.Ranked.{slot-at, first-in, count-in, entity-at, Ranked, RankedAs, Unranked, VersionsRanked};
 
 // How many entities there are, and versions.
 pub struct Ranks {
@@ -37,6 +37,15 @@ pub fn first_at(work: &[u8], ranks: Ranks, g: usize) -> usize
         return fields::get_u16(work, SLOT_WIDTH * g + FIRST_COLUMN) as usize;
     }
     ranks.versions
+}
+
+// How many versions the g-th entity has.
+pub fn count_at(work: &[u8], ranks: Ranks, g: usize) -> usize
+    requires { ⌜ Ranked (now work) ranks × (g < ranks .entities) ⌝ }
+    ensures { λ r. ⌜ r ≡ count-in (now (work .entry)) ranks g ⌝ }
+{
+    let next = first_at(work, ranks, g + 1);
+    next - first_at(work, ranks, g)
 }
 
 // The number of the g-th entity.

@@ -1,7 +1,7 @@
 -- Cubes of whole numbers: digits of a cube root from a quotient. Assumes nothing.
 use mathlib.Core.Path.{_≡_, refl, ap, _∙_}
 use mathlib.Core.Bool.{Bool, true, false, not}
-use Prim.Native.Nat.{ℕ, zero, suc, _+_, _-_, _*_, _/_, _%_, _^_, _≤_, _<_}
+use Prim.Native.Nat.{ℕ, suc, _+_, _-_, _*_, _/_, _%_, _^_, _≤_, _<_}
 use native.Mathlib.Nat.{pow-zero, pow-suc, lt-of-not-le, mul-le-mul, mul-le-mul-right, mul-le-mul-left, pow-le-pow-right, mod-eq-of-lt, mod-lt, div-add-mod', lt-div-mul-add, div-le-of-le-mul}
 use native.Mathlib.Numerals.{add-one}
 use native.Mathlib.Omega.{arith}

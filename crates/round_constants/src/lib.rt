@@ -3,9 +3,9 @@
 // The root of a prime p with d binary digits after the point is the greatest whole number whose cube is at most p * 2^(3 d). It is found
 // with 6 digits by counting up from the root of the prime before, then with 15 and with 32, each by one division. All fits 64 bits.
 ghost use mathlib.Core.Path.{_≡_};
-ghost use Prim.Native.Nat.{ℕ, _+_, _-_, _*_, _/_, _%_, _^_, _<_, _≤_};
+ghost use Prim.Native.Nat.{_+_, _-_, _*_, _/_, _%_, _^_, _<_, _≤_};
 ghost use lib.Dec.{ltb};
-ghost use lib.ListN.{length, getD, take};
+ghost use lib.ListN.{length};
 ghost use Rattle.round_constants.specs.Constants.{Greatest, fraction, K};
 ghost use Rattle.round_constants.specs.Working.{RoundedUp, Known, Tried, Sieved, Struck, NextUnmarked, SixDigits};
 

@@ -6,10 +6,6 @@ use Rattle.graph.proofs.Slots.{kept-then}
 use Rattle.kept_trees.proofs.Rows.{digests-beside, ranked-same, all-within, trees-kept}
 use Rattle.kept_trees.proofs.keep_trees.Statement.{statement}
 use Rattle.kept_trees.proofs.keep_trees.Tie as tie
-use Rattle.kept_trees.proofs.keep_trees.Reads as reads
-use Rattle.kept_trees.proofs.keep_trees.Lts as lts
-use Rattle.kept_trees.proofs.keep.Reads as keep-reads
-use Rattle.kept_trees.proofs.keep_versions.Reads as keep-versions-reads
 
 keep-versions-requires : tie.Need-keep-versions-requires
 keep-versions-requires c κs = search needs

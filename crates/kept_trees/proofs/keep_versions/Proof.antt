@@ -5,9 +5,6 @@ use Rattle.kept_trees.proofs.Rows.{KeptUpTo, up-to-none, up-to-more, up
 use native.Mathlib.Omega.{arith}
 use Rattle.kept_trees.proofs.keep_versions.Statement.{statement}
 use Rattle.kept_trees.proofs.keep_versions.Tie as tie
-use Rattle.kept_trees.proofs.keep_versions.Reads as reads
-use Rattle.kept_trees.proofs.keep_versions.Lts as lts
-use Rattle.kept_trees.proofs.keep_entity.Reads as keep-entity-reads
 
 abbrev Inv-loop : tie.InvT-loop
 Inv-loop work₀ ranks constants g₀ work g = KeptUpTo work₀ work ranks g

@@ -4,7 +4,6 @@ use Rattle.proof_writer.proofs.Seeking.{among-entity, among-version, en
 use native.Mathlib.Omega.{arith}
 use Rattle.proof_writer.proofs.goes_left.Statement.{statement}
 use Rattle.proof_writer.proofs.goes_left.Tie as tie
-use Rattle.proof_writer.proofs.goes_left.Reads as reads
 
 enum-known-descent : tie.Need-enum-known-descent
 enum-known-descent c = search needs

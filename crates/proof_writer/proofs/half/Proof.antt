@@ -8,7 +8,6 @@ use Rattle.proof_writer.proofs.Seeking.{tree-at, took-left, took-right}
 use native.Mathlib.Omega.{arith}
 use Rattle.proof_writer.proofs.half.Statement.{statement}
 use Rattle.proof_writer.proofs.half.Tie as tie
-use Rattle.proof_writer.proofs.half.Reads as reads
 
 split-requires : tie.Need-split-requires
 split-requires c κs = search needs

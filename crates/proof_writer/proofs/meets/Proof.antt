@@ -5,7 +5,6 @@ use Rattle.proof_writer.proofs.Spans.{meets-not, meets-by}
 use native.Mathlib.Omega.{arith}
 use Rattle.proof_writer.proofs.meets.Statement.{statement}
 use Rattle.proof_writer.proofs.meets.Tie as tie
-use Rattle.proof_writer.proofs.meets.Reads as reads
 
 time-at-requires : tie.Need-time-at-requires
 time-at-requires c κs =

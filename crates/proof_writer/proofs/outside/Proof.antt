@@ -4,7 +4,6 @@ use Rattle.proof_writer.proofs.Seeking.{outside-low, outside-high}
 use native.Mathlib.Omega.{arith}
 use Rattle.proof_writer.proofs.outside.Statement.{statement}
 use Rattle.proof_writer.proofs.outside.Tie as tie
-use Rattle.proof_writer.proofs.outside.Reads as reads
 
 entity-at-requires : tie.Need-entity-at-requires
 entity-at-requires c κs =

@@ -2,7 +2,6 @@ use denote.Ref.{now}
 use Rattle.proof_writer.proofs.Planning.{plan-kept, ranked-after, has-trees}
 use Rattle.proof_writer.proofs.plan.Statement.{statement}
 use Rattle.proof_writer.proofs.plan.Tie as tie
-use Rattle.proof_writer.proofs.plan.Reads as reads
 
 rank-all-requires : tie.Need-rank-all-requires
 rank-all-requires c κs = c .before .before .pre .0

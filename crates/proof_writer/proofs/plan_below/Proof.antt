@@ -3,7 +3,6 @@ use denote.Ref.{now}
 use Rattle.proof_writer.proofs.Planning.{plan-one, plan-all}
 use Rattle.proof_writer.proofs.plan_below.Statement.{statement}
 use Rattle.proof_writer.proofs.plan_below.Tie as tie
-use Rattle.proof_writer.proofs.plan_below.Reads as reads
 
 enum-known-query : tie.Need-enum-known-query
 enum-known-query c = search needs

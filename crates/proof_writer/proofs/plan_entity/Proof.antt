@@ -8,7 +8,6 @@ use Rattle.proof_writer.proofs.Planning.{inside-group, plan-absent, rea
 use native.Mathlib.Omega.{arith}
 use Rattle.proof_writer.proofs.plan_entity.Statement.{statement}
 use Rattle.proof_writer.proofs.plan_entity.Tie as tie
-use Rattle.proof_writer.proofs.plan_entity.Reads as reads
 
 entity-of-requires : tie.Need-entity-of-requires
 entity-of-requires c κs = search needs

@@ -5,7 +5,6 @@ use Rattle.proof_writer.proofs.Writing.{entity-is}
 use native.Mathlib.Omega.{arith}
 use Rattle.proof_writer.proofs.put_entity.Statement.{statement}
 use Rattle.proof_writer.proofs.put_entity.Tie as tie
-use Rattle.proof_writer.proofs.put_entity.Reads as reads
 
 put-front-requires : tie.Need-put-front-requires
 put-front-requires c κs =

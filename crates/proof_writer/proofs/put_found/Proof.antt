@@ -5,7 +5,6 @@ use Rattle.proof_writer.proofs.Writing.{found-is}
 use native.Mathlib.Omega.{arith}
 use Rattle.proof_writer.proofs.put_found.Statement.{statement}
 use Rattle.proof_writer.proofs.put_found.Tie as tie
-use Rattle.proof_writer.proofs.put_found.Reads as reads
 
 put-walk-requires : tie.Need-put-walk-requires
 put-walk-requires c κs =

@@ -6,7 +6,6 @@ use Rattle.proof_writer.proofs.Writing.{front-is}
 use native.Mathlib.Omega.{arith}
 use Rattle.proof_writer.proofs.put_front.Statement.{statement}
 use Rattle.proof_writer.proofs.put_front.Tie as tie
-use Rattle.proof_writer.proofs.put_front.Reads as reads
 
 kept-tree-requires : tie.Need-kept-tree-requires
 kept-tree-requires c κs =

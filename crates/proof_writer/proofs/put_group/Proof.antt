@@ -4,7 +4,6 @@ use Rattle.proof_writer.proofs.Writing.{group-is}
 use native.Mathlib.Omega.{arith}
 use Rattle.proof_writer.proofs.put_group.Statement.{statement}
 use Rattle.proof_writer.proofs.put_group.Tie as tie
-use Rattle.proof_writer.proofs.put_group.Reads as reads
 
 versions-tree-requires : tie.Need-versions-tree-requires
 versions-tree-requires c κs =

@@ -6,7 +6,6 @@ use Rattle.model.specs.Accumulator.{Subtree as Known, branch-string}
 use native.Mathlib.Omega.{arith}
 use Rattle.proof_writer.proofs.put_node.Statement.{statement}
 use Rattle.proof_writer.proofs.put_node.Tie as tie
-use Rattle.proof_writer.proofs.put_node.Reads as reads
 
 kept-tree-requires : tie.Need-kept-tree-requires
 kept-tree-requires c κs =

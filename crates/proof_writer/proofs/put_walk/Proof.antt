@@ -5,7 +5,6 @@ use Rattle.proof_writer.proofs.Writing.{walk-is}
 use native.Mathlib.Omega.{arith}
 use Rattle.proof_writer.proofs.put_walk.Statement.{statement}
 use Rattle.proof_writer.proofs.put_walk.Tie as tie
-use Rattle.proof_writer.proofs.put_walk.Reads as reads
 
 put-entity-requires : tie.Need-put-entity-requires
 put-entity-requires c κs =

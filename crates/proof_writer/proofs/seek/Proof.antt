@@ -5,7 +5,6 @@ use Rattle.proof_writer.specs.Walks.{rowOf}
 use Rattle.proof_writer.proofs.Seeking.{Seeking, seeking-none, seeking-leads, seeking-stopped, seeking-reached, seeking-less, seeking-more, stopped-target, stopped-depth, reached-target, reached-depth}
 use Rattle.proof_writer.proofs.seek.Statement.{statement}
 use Rattle.proof_writer.proofs.seek.Tie as tie
-use Rattle.proof_writer.proofs.seek.Reads as reads
 
 abbrev Inv-loop : tie.InvT-loop
 Inv-loop descent work ranks from n leaves₀ depth₀ leaves depth = Seeking descent work ranks from n leaves depth

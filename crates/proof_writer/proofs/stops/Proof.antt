@@ -3,7 +3,6 @@ use denote.Ref.{now}
 use Rattle.proof_writer.proofs.Seeking.{among-entity, among-version, stops-entity, stops-version}
 use Rattle.proof_writer.proofs.stops.Statement.{statement}
 use Rattle.proof_writer.proofs.stops.Tie as tie
-use Rattle.proof_writer.proofs.stops.Reads as reads
 
 enum-known-descent : tie.Need-enum-known-descent
 enum-known-descent c = search needs

@@ -4,7 +4,6 @@ use Rattle.proof_writer.proofs.Seeking.{unmet-back, unmet-ahead}
 use native.Mathlib.Omega.{arith}
 use Rattle.proof_writer.proofs.unmet.Statement.{statement}
 use Rattle.proof_writer.proofs.unmet.Tie as tie
-use Rattle.proof_writer.proofs.unmet.Reads as reads
 
 enum-told : tie.Need-enum-told
 enum-told c = search needs

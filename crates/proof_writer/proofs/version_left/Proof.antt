@@ -4,7 +4,6 @@ use Rattle.proof_writer.proofs.Seeking.{left-back, left-ahead}
 use native.Mathlib.Omega.{arith}
 use Rattle.proof_writer.proofs.version_left.Statement.{statement}
 use Rattle.proof_writer.proofs.version_left.Tie as tie
-use Rattle.proof_writer.proofs.version_left.Reads as reads
 
 enum-told : tie.Need-enum-told
 enum-told c = search needs

@@ -4,7 +4,6 @@ use Rattle.accumulator.specs.Trees.{headerOf}
 use Rattle.proof_writer.proofs.Writing.{no-entity-ready, no-entity-done, unmet-ready, unmet-done, found-ready, found-done, listed-ready, listed-done}
 use Rattle.proof_writer.proofs.write.Statement.{statement}
 use Rattle.proof_writer.proofs.write.Tie as tie
-use Rattle.proof_writer.proofs.write.Reads as reads
 
 enum-known-plan : tie.Need-enum-known-plan
 enum-known-plan c = search needs
