@@ -18,8 +18,7 @@ use Rattle.question.specs.Ways.{wayOf}
 use Rattle.graph.specs.Table.{node-in, nodes-in, Kept, Ready}
 use Rattle.graph.specs.Links.{Starts}
 use Rattle.graph.proofs.Slots.{kept-none, kept-then}
-use Rattle.graph.proofs.Nodes.{length-nodes, nodes-kept}
-use Rattle.graph.proofs.Incoming.{at-node, starts}
+use Rattle.graph.proofs.Nodes.{length-nodes, nodes-kept, at-node, starts}
 use Rattle.marks.specs.Marks.{mark-column, is-marked, Unmarked, StartsMarked}
 use Rattle.checker.specs.Runs.{place-or, Lowest}
 

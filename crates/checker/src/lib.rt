@@ -146,7 +146,7 @@ fn put_digests(way: Way, work: &mut [u8], n: usize, constants: &[u32; 64])
     ensures { λ _. ⌜ PathDigests (wayOf way) (now (work .entry)) (now (work .exit)) n ⌝ }
 {
     match way {
-        Way::Backward => graph::fill_incoming(work, n, constants),
+        Way::Backward => incoming::fill_incoming(work, n, constants),
         Way::Forward => graph::fill_outgoing(work, n, constants),
     }
 }

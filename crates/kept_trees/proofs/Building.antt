@@ -17,8 +17,9 @@ use Rattle.accumulator.specs.Trees.{known, parentOf}
 use Rattle.accumulator.specs.Halves.{folded, leaf-count, no-known, subtree-of}
 use Rattle.accumulator.proofs.Strings.{known-parent}
 use Rattle.accumulator.proofs.Splitting.{split-bounds}
+use Rattle.leaves.specs.Leaves.{digest-in}
 use Rattle.kept_trees.specs.Leaves.{Leaves, stretch, tree-of}
-use Rattle.kept_trees.specs.Kept.{digest-in, Keeps, KeptTree, node-kept, Stored, Keeping}
+use Rattle.kept_trees.specs.Kept.{LeafDigests, Keeps, KeptTree, node-kept, Stored, Keeping}
 use Rattle.kept_trees.proofs.Stretches.{stretch-one, stretch-count, stretch-halves, tree-leaf, tree-of-halves, tree-least, tree-greatest}
 
 -- ---- a tree stays kept where its digests stay
@@ -105,10 +106,17 @@ tip-kept : (R : Leaves) (m : Bytes) (i : ℕ) (k : Known) → Keeps R m i (tip k
 unfolding Keeps
 tip-kept R m i k = tt
 
-pub keeping-one : (R : Leaves) (m : Bytes) (i n : ℕ) (r : Known) → 0 < n → n ≤ 1 → r ≡ R .leaf i → Keeping R m m i n r
-keeping-one R m i n r p h e =
+-- a tree of one leaf, whose digest is kept
+pub keeping-one : (R : Leaves) (m : Bytes) (i n : ℕ) (r : Known) → 0 < n → n ≤ 1 → r ≡ node-kept R m i n 0 → LeafDigests R m i n → Keeping R m m i n r
+unfolding node-kept
+keeping-one R m i n r p h e L =
+    let y : i + (n - 1) ≡ i = omega arith in
+    let z : i + 0 ≡ i = omega arith in
+    let g : R .leaf (i + (n - 1)) .greatest ≡ R .leaf i .greatest = ap (λ (x : ℕ). R .leaf x .greatest) y in
+    let d : digest-in m (R .slot (i + 0)) ≡ R .leaf i .digest = ap (λ (x : ℕ). digest-in m (R .slot x)) z ∙ L .here i (omega arith) (omega arith) in
+    let is : r ≡ R .leaf i = e ∙ (λ j. record { least = R .leaf i .least; greatest = g j; digest = d j }) in
     record {
-      root = e ∙ sym (tree-leaf R i n p h);
+      root = is ∙ sym (tree-leaf R i n p h);
       others = λ j g. refl;
       tree-kept = record { keeps = subst (Keeps R m i) (sym (ap (tree no-known) (stretch-one R i n p h) ∙ tree-one no-known (R .leaf i))) (tip-kept R m i (R .leaf i)) };
     }
@@ -116,6 +124,18 @@ keeping-one R m i n r p h e =
 -- the slots of the leaves rise
 pub record Rises (R : Leaves) (i n : ℕ) : Type 0 where
   pub rise : (x y : ℕ) → i ≤ x → x < y → y < i + n → R .slot x < R .slot y
+
+-- the digests of a tree's right leaves are kept after its left half is built, and those of its left ones before
+pub leaves-left : (R : Leaves) (w : Bytes) (i n k : ℕ) → k ≤ n → LeafDigests R w i n → LeafDigests R w i k
+leaves-left R w i n k h L = record { here = λ x a b. L .here x a (omega arith) }
+
+pub leaves-right : (R : Leaves) (w w1 : Bytes) (i n k : ℕ) (a : Known) → Rises R i n → 0 < k → k ≤ n → Keeping R w w1 i k a → LeafDigests R w i n → LeafDigests R w1 (i + k) (n - k)
+leaves-right R w w1 i n k a O low high A L =
+    record {
+      here = λ x p q.
+          A .others (R .slot x) (λ y s t u. let v = O .rise y x (omega arith) (omega arith) (omega arith) in let z : ⊥ = omega arith in z)
+          ∙ L .here x (omega arith) (omega arith);
+    }
 
 module _ (R : Leaves) (w w1 w2 w3 : Bytes) (i n k : ℕ) (a b r : Subtree) (O : Rises R i n) (h : 1 < n) (e : k ≡ largest-power-below n)
     (A : Keeping R w w1 i k (known a)) (B : Keeping R w1 w2 (i + k) (n - k) (known b)) (er : r ≡ parentOf (R .letter) a b) (S : Stored w2 w3 (R .slot (i + k)) (r .digest)) where

@@ -5,32 +5,32 @@ use mathlib.Core.Bool.{cond}
 use mathlib.Core.Logic.{_⊎_, inl, inr, ⊎-elim}
 use mathlib.Core.List.{List, [], _∷_, map}
 use Prim.Native.Nat.{ℕ, zero, suc, _+_, _-_, _*_, _≤_, _<_}
-use native.Mathlib.Nat.{add-zero}
 use native.Mathlib.Omega.{arith}
-use lib.Dec.{T, ltb}
+use lib.Dec.{T, ltb, lit≤}
 use lib.ListN.{length}
 use Rattle.fields.specs.Fields.{decode, part, field, written}
 use Rattle.fields.proofs.Numbers.{le-or-lt}
-use Rattle.fields.proofs.Places.{length-part, written-whole}
 use Rattle.model.specs.Numbers.{Bytes}
 use Rattle.model.specs.Accumulator.{Subtree as Known, branch-string, largest-power-below}
 use Rattle.model.proofs.Strings.{H-length}
 use Rattle.model.specs.Graph.{VersionNode}
 use Rattle.graph.specs.Table.{Columns, columns, outside, Kept, time-in}
-use Rattle.graph.proofs.Slots.{kept-none, kept-then}
+use Rattle.graph.proofs.Slots.{kept-then, field-within}
 use Rattle.accumulator.specs.declared.Subtree.{Subtree}
 use Rattle.accumulator.specs.Trees.{known, parentOf, version-leaf, group-leaf}
 use Rattle.accumulator.proofs.Splitting.{split-bounds}
-use Rattle.trees.specs.Tables.{slot-leaf, version-at}
+use Rattle.leaves.specs.Leaves.{slot-leaf, digest-in}
+use Rattle.leaves.proofs.Keeping.{slot-leaf-kept}
+use Rattle.trees.specs.Tables.{version-at}
 use Rattle.ranks.specs.declared.Ranks.{Ranks}
 use Rattle.ranks.specs.Ranked.{slot-at, first-in, count-in, entity-at, Ranked, slots-in, RankedAs}
 use Rattle.ranks.proofs.Reading.{first-inside, some-versions, count-inside}
 use Rattle.kept_trees.specs.declared.Row.{Row}
 use Rattle.kept_trees.specs.declared.Row.the-variants.{Versions, Entities}
 use Rattle.kept_trees.specs.Leaves.{Leaves, tree-of, version-known, versions-row, entity-known, entities-row, row-of, letter-of, size-of, Within}
-use Rattle.kept_trees.specs.Kept.{digest-in, KeptTree, node-kept, Stored, Keeping, VersionsKept, TreesKept, Ready, EntityKept}
+use Rattle.kept_trees.specs.Kept.{LeafDigests, KeptTree, node-kept, Stored, Keeping, VersionsKept, TreesKept, Ready}
 use Rattle.kept_trees.proofs.Stretches.{tree-leaf}
-use Rattle.kept_trees.proofs.Building.{kept-same, node-is, Rises, keeping-two}
+use Rattle.kept_trees.proofs.Building.{kept-same, node-is, leaves-left, leaves-right, Rises, keeping-two}
 
 -- ---- leaves
 
@@ -69,7 +69,7 @@ pub entity-key : (row : Row) (m : Bytes) (r : Ranks) (g x : ℕ) → row ≡ Ent
 unfolding entities-row entity-known group-leaf
 entity-key row m r g x e p = p ∙ ap (λ (x : Row). row-of x m r .leaf g .least) (sym e)
 
-version-slot : (m : Bytes) (i : ℕ) → i ≡ versions-row m .slot i
+pub version-slot : (m : Bytes) (i : ℕ) → i ≡ versions-row m .slot i
 unfolding versions-row
 version-slot m i = refl
 
@@ -89,9 +89,6 @@ pub slot-there : (row : Row) (m : Bytes) (r : Ranks) (i s : ℕ) → Ranked m r 
 unfolding versions-row entities-row
 slot-there Versions m r i s R h e = omega (arith, R .room)
 slot-there Entities m r i s R h e = let f = first-inside m r R i h in omega (arith, R .room)
-
-pub digest-read : (m l d : Bytes) (s : ℕ) → length l ≡ 32 → 128 * s + 128 ≤ length m → d ≡ written l 0 (part m (128 * s + 84) 32) → d ≡ digest-in m s
-digest-read m l d s w h e = written-whole l d (part m (128 * s + 84) 32) 32 e w (length-part m (128 * s + 84) 32 (omega arith))
 
 pub node-read : (row : Row) (m : Bytes) (r : Ranks) (i n k a b s : ℕ) (d : Bytes) → a ≡ row-of row m r .leaf i .least → b ≡ row-of row m r .leaf (i + (n - 1)) .least
     → s ≡ row-of row m r .slot (i + k) → d ≡ digest-in m s → known (record { least = a; greatest = b; digest = d }) ≡ node-kept (row-of row m r) m i n k
@@ -143,19 +140,17 @@ versions-two m r g f n j k h p q more split e VK =
 
 -- columns of which no row's leaves or slots are read
 pub record Beside (cs : List Columns) : Type 0 where
-  pub incoming : T (outside cs 0 32)
-  pub outgoing : T (outside cs 32 32)
-  pub times : T (outside cs 64 8)
-  pub entities : T (outside cs 72 4)
+  pub digests : T (outside cs 0 64)
+  pub versions : T (outside cs 64 12)
   pub ranked : T (outside cs 116 2)
   pub firsts : T (outside cs 120 2)
 
 -- the digests kept are such
 abbrev pub digests-beside : Beside (columns 84 116 ∷ [])
-digests-beside = record { incoming = tt; outgoing = tt; times = tt; entities = tt; ranked = tt; firsts = tt }
+digests-beside = record { digests = tt; versions = tt; ranked = tt; firsts = tt }
 
 module _ (cs : List Columns) (w w′ : Bytes) (K : Kept cs w w′) (O : Beside cs) where
-  slot-same : (i : ℕ) → slot-at w′ i ≡ slot-at w i
+  pub slot-same : (i : ℕ) → slot-at w′ i ≡ slot-at w i
   unfolding slot-at field
   slot-same i = ap decode (K .same i 116 2 (O .ranked))
 
@@ -164,19 +159,9 @@ module _ (cs : List Columns) (w w′ : Bytes) (K : Kept cs w w′) (O : Beside c
   slots-same i zero = refl
   slots-same i (suc n) = ap₂ {C = List ℕ} (λ (k : ℕ) (ks : List ℕ). k ∷ ks) (slot-same i) (slots-same (suc i) n)
 
-  slot-leaf-same : (s : ℕ) → slot-leaf w′ s ≡ slot-leaf w s
-  unfolding slot-leaf field
-  slot-leaf-same s =
-      let a = add-zero (128 * s) in
-      let p : part w′ (128 * s) 32 ≡ part w (128 * s) 32 = ap (λ (x : ℕ). part w′ x 32) (sym a) ∙ K .same s 0 32 (O .incoming) ∙ ap (λ (x : ℕ). part w x 32) a in
-      let q = K .same s 32 32 (O .outgoing) in
-      let e = K .same s 72 4 (O .entities) in
-      let t = K .same s 64 8 (O .times) in
-      λ z. record { entity = decode (e z); time = decode (t z); incoming = p z; outgoing = q z }
-
-  version-same : (i : ℕ) → version-known w′ i ≡ version-known w i
+  pub version-same : (i : ℕ) → version-known w′ i ≡ version-known w i
   unfolding version-known
-  version-same i = ap version-leaf (slot-leaf-same (slot-at w′ i) ∙ ap (slot-leaf w) (slot-same i))
+  version-same i = ap version-leaf (slot-leaf-kept cs w w′ (slot-at w′ i) K (O .digests) (O .versions) ∙ ap (slot-leaf w) (slot-same i))
 
   pub versions-row-same : versions-row w′ ≡ versions-row w
   unfolding versions-row
@@ -191,13 +176,13 @@ module _ (cs : List Columns) (w w′ : Bytes) (K : Kept cs w w′) (O : Beside c
     unfolding count-in
     count-same g = ap₂ _-_ (first-same (g + 1)) (first-same g)
 
-    entity-same : (g : ℕ) → entity-at w′ r g ≡ entity-at w r g
+    pub entity-same : (g : ℕ) → entity-at w′ r g ≡ entity-at w r g
     unfolding entity-at field
     entity-same g =
-        ap decode (K .same (slot-at w′ (first-in w′ r g)) 72 4 (O .entities))
+        field-within cs w w′ (slot-at w′ (first-in w′ r g)) 64 12 72 4 K (O .versions) (lit≤ tt) (lit≤ tt)
         ∙ ap (λ (s : ℕ). decode (part w (128 * s + 72) 4)) (slot-same (first-in w′ r g) ∙ ap (slot-at w) (first-same g))
 
-    known-same : (g : ℕ) → entity-known w′ r g ≡ entity-known w r g
+    pub known-same : (g : ℕ) → entity-known w′ r g ≡ entity-known w r g
     unfolding entity-known
     known-same g =
         ap₂ group-leaf (entity-same g)
@@ -264,23 +249,23 @@ right-within row r i n k h e I = let b = split-bounds n h in let b0 = b .0 in le
 pub middle-inside : (row : Row) (r : Ranks) (i n k : ℕ) → 1 < n → k ≡ largest-power-below n → Within row r i n → i + k < size-of row r
 middle-inside row r i n k h e I = let b = split-bounds n h .1 in omega (arith, I .inside)
 
-lt-or-le : (a b : ℕ) → (a < b) ⊎ (b ≤ a)
+pub lt-or-le : (a b : ℕ) → (a < b) ⊎ (b ≤ a)
 lt-or-le a b = ⊎-elim (λ (h : b ≤ a). inr h) (λ (h : a < b). inl h) (le-or-lt b a)
 
 -- no first rank lies behind an entity's first rank and before the next entity's
-between : (w : Bytes) (r : Ranks) → Ranked w r → (g j x : ℕ) → g < r .entities → x ≤ r .entities → first-in w r g < j → j < first-in w r (g + 1) → j ≡ first-in w r x → ⊥
+pub between : (w : Bytes) (r : Ranks) → Ranked w r → (g j x : ℕ) → g < r .entities → x ≤ r .entities → first-in w r g < j → j < first-in w r (g + 1) → j ≡ first-in w r x → ⊥
 between w r R g j x p o a b q =
     ⊎-elim
     (λ (y : x ≤ g). ⊎-elim (λ (u : g ≤ x). let t = ap (first-in w r) (let z : x ≡ g = omega arith in z) in omega arith) (λ (u : x < g). let t = R .rise x g u (omega arith) in omega arith) (le-or-lt g x))
     (λ (y : g < x). ⊎-elim (λ (u : x ≤ g + 1). let t = ap (first-in w r) (let z : x ≡ g + 1 = omega arith in z) in omega arith) (λ (u : g + 1 < x). let t = R .rise (g + 1) x u o in omega arith) (le-or-lt x (g + 1)))
     (le-or-lt x g)
 
-ends-with : (w : Bytes) (r : Ranks) → Ranked w r → (g : ℕ) → g < r .entities → first-in w r g + count-in w r g ≡ first-in w r (g + 1)
+pub ends-with : (w : Bytes) (r : Ranks) → Ranked w r → (g : ℕ) → g < r .entities → first-in w r g + count-in w r g ≡ first-in w r (g + 1)
 unfolding count-in
 ends-with w r R g h = let a = R .rise g (g + 1) (omega arith) (omega arith) in omega arith
 
 -- the tree of entities keeps its digests where no entity's tree does
-versions-stay : (w w′ : Bytes) (r : Ranks) (i n : ℕ) (k : Known) → Kept (columns 84 116 ∷ []) w w′ → Ranked w r → i + n ≤ r .entities → Keeping (entities-row w r) w w′ i n k
+pub versions-stay : (w w′ : Bytes) (r : Ranks) (i n : ℕ) (k : Known) → Kept (columns 84 116 ∷ []) w w′ → Ranked w r → i + n ≤ r .entities → Keeping (entities-row w r) w w′ i n k
     → VersionsKept w r → VersionsKept w′ r
 unfolding entities-row
 versions-stay w w′ r i n k K R h A VK =
@@ -291,86 +276,34 @@ versions-stay w w′ r i n k K R h A VK =
           (VK .kept g p);
     }
 
-pub ready-stays : (row : Row) (w w′ : Bytes) (r : Ranks) (i n : ℕ) (k : Known) → Kept (columns 84 116 ∷ []) w w′ → Ranked w r → Within row r i n → Keeping (row-of row w r) w w′ i n k
-    → Ready row w r → Ready row w′ r
-ready-stays Versions w w′ r i n k K R I A q = tt
-ready-stays Entities w w′ r i n k K R I A q = versions-stay w w′ r i n k K R (I .inside) A q
-
 pub kept-all : (w w1 w2 w3 : Bytes) (s : ℕ) (d : Bytes) → Kept (columns 84 116 ∷ []) w w1 → Kept (columns 84 116 ∷ []) w1 w2 → Stored w2 w3 s d → Kept (columns 84 116 ∷ []) w w3
 kept-all w w1 w2 w3 s d a b S = kept-then (columns 84 116 ∷ []) w w1 w3 a (kept-then (columns 84 116 ∷ []) w1 w2 w3 b (S .kept))
 
+pub left-leaves : (row : Row) (w : Bytes) (r : Ranks) (i n k : ℕ) → 1 < n → k ≡ largest-power-below n → LeafDigests (row-of row w r) w i n → LeafDigests (row-of row w r) w i k
+left-leaves row w r i n k h e L = let b = split-bounds n h .1 in leaves-left (row-of row w r) w i n k (omega arith) L
+
+pub right-leaves : (row : Row) (w w1 : Bytes) (r : Ranks) (i n k : ℕ) (a : Known) → Ranked w r → Within row r i n → 1 < n → k ≡ largest-power-below n
+    → Kept (columns 84 116 ∷ []) w w1 → Keeping (row-of row w r) w w1 i k a → LeafDigests (row-of row w r) w i n → LeafDigests (row-of row w1 r) w1 (i + k) (n - k)
+right-leaves row w w1 r i n k a R I h e K A L =
+    let b = split-bounds n h in
+    let b0 = b .0 in
+    let b1 = b .1 in
+    subst (λ (X : Leaves). LeafDigests X w1 (i + k) (n - k)) (sym (row-same (columns 84 116 ∷ []) w w1 K digests-beside r row))
+    (leaves-right (row-of row w r) w w1 i n k a (row-rises row w r i n R I) (omega arith) (omega arith) A L)
+
 pub keep-two : (row : Row) (w w1 w2 w3 : Bytes) (r : Ranks) (i n k s letter : ℕ) (a b t : Subtree) → Ranked w r → Within row r i n → 1 < n → k ≡ largest-power-below n
-    → Kept (columns 84 116 ∷ []) w w1 → (Ready row w r → Keeping (row-of row w r) w w1 i k (known a))
-    → Kept (columns 84 116 ∷ []) w1 w2 → (Ready row w1 r → Keeping (row-of row w1 r) w1 w2 (i + k) (n - k) (known b))
+    → Kept (columns 84 116 ∷ []) w w1 → Keeping (row-of row w r) w w1 i k (known a)
+    → Kept (columns 84 116 ∷ []) w1 w2 → Keeping (row-of row w1 r) w1 w2 (i + k) (n - k) (known b)
     → letter ≡ letter-of row → t ≡ parentOf letter a b → s ≡ row-of row w2 r .slot (i + k) → Stored w2 w3 s (t .digest)
-    → Ready row w r → Keeping (row-of row w r) w w3 i n (known t)
-keep-two row w w1 w2 w3 r i n k s letter a b t R I more split K1 A K2 B el et es S q =
-    let L = left-within row r i n k more split I in
-    let A′ = A q in
-    let q1 = ready-stays row w w1 r i k (known a) K1 R L A′ q in
-    let B′ = subst (λ (X : Leaves). Keeping X w1 w2 (i + k) (n - k) (known b)) (row-same (columns 84 116 ∷ []) w w1 K1 digests-beside r row) (B q1) in
+    → Keeping (row-of row w r) w w3 i n (known t)
+keep-two row w w1 w2 w3 r i n k s letter a b t R I more split K1 A K2 B el et es S =
+    let B′ = subst (λ (X : Leaves). Keeping X w1 w2 (i + k) (n - k) (known b)) (row-same (columns 84 116 ∷ []) w w1 K1 digests-beside r row) B in
     let f : s ≡ row-of row w r .slot (i + k) = es ∙ ap (λ (X : Leaves). X .slot (i + k)) (row-same (columns 84 116 ∷ []) w w2 (kept-then (columns 84 116 ∷ []) w w1 w2 K1 K2) digests-beside r row) in
-    keeping-two (row-of row w r) w w1 w2 w3 i n k a b t (row-rises row w r i n R I) more split A′ B′
+    keeping-two (row-of row w r) w w1 w2 w3 i n k a b t (row-rises row w r i n R I) more split A B′
     (et ∙ ap (λ (x : ℕ). parentOf x a b) (el ∙ row-letter row w r)) (subst (λ (x : ℕ). Stored w2 w3 x (t .digest)) f S)
-
--- ---- all trees
-
--- one entity's tree more
-pub entity-kept : (w w′ : Bytes) (r : Ranks) (g f n : ℕ) (k : Known) → Ranked w r → g < r .entities → f ≡ first-in w r g → n ≡ count-in w r g
-    → Kept (columns 84 116 ∷ []) w w′ → Keeping (versions-row w) w w′ f n k → EntityKept w w′ r g
-entity-kept w w′ r g f n k R h p q K A =
-    record {
-      kept = K;
-      here = entity-moves (columns 84 116 ∷ []) w w′ K digests-beside r g (subst (KeptTree (versions-row w) w′ (first-in w r g)) q (subst (λ (x : ℕ). KeptTree (versions-row w) w′ x n) p (A .tree-kept)));
-      others = λ x a b T.
-          entity-stays (columns 84 116 ∷ []) w w′ K digests-beside r x (some-versions w r R x a) (λ j c d. A .others j (λ y s u v. apart x j y a b c (omega (arith, ends-with w r R x a)) s u (v ∙ sym (version-slot w y)))) T;
-    }
-  where
-    -- a rank behind the first of another entity's is none of this one's
-    apart : (x j y : ℕ) → x < r .entities → (x ≡ g → ⊥) → first-in w r x < j → j < first-in w r (x + 1) → f < y → y < f + n → j ≡ y → ⊥
-    apart x j y a b c d s u v =
-        let l = ends-with w r R g h in
-        ⊎-elim
-        (λ (z : x ≤ g).
-        ⊎-elim (λ (o : x + 1 < g). let m = R .rise (x + 1) g o (omega arith) in omega arith) (λ (o : g ≤ x + 1). let m = ap (first-in w r) (let z : x + 1 ≡ g = omega (arith, b) in z) in omega arith) (lt-or-le (x + 1) g))
-        (λ (z : g < x).
-        ⊎-elim (λ (o : g + 1 < x). let m = R .rise (g + 1) x o (omega arith) in omega arith) (λ (o : x ≤ g + 1). let m = ap (first-in w r) (let z : g + 1 ≡ x = omega arith in z) in omega arith) (lt-or-le (g + 1) x))
-        (le-or-lt x g)
-
--- the trees of the first g entities
-pub record KeptUpTo (w w′ : Bytes) (r : Ranks) (g : ℕ) : Type 0 where
-  pub kept : Kept (columns 84 116 ∷ []) w w′
-  pub ranked : Ranked w′ r
-  pub trees : (x : ℕ) → x < g → x < r .entities → KeptTree (versions-row w′) w′ (first-in w′ r x) (count-in w′ r x)
-
-pub up-to-none : (w : Bytes) (r : Ranks) → Ranked w r → KeptUpTo w w r 0
-up-to-none w r R = record { kept = kept-none (columns 84 116 ∷ []) w; ranked = R; trees = λ x h g. absurd (let z : ⊥ = omega arith in z) }
-
-pub up-to-more : (w w1 w2 : Bytes) (r : Ranks) (g : ℕ) → KeptUpTo w w1 r g → EntityKept w1 w2 r g → KeptUpTo w w2 r (g + 1)
-up-to-more w w1 w2 r g I E =
-    record {
-      kept = kept-then (columns 84 116 ∷ []) w w1 w2 (I .kept) (E .kept);
-      ranked = ranked-same (columns 84 116 ∷ []) w1 w2 (E .kept) digests-beside r (I .ranked);
-      trees = λ x a b.
-          ⊎-elim (λ (y : x < g). E .others x b (λ q. let z : ⊥ = omega arith in z) (I .trees x y b))
-          (λ (y : g ≤ x). subst (λ (u : ℕ). KeptTree (versions-row w2) w2 (first-in w2 r u) (count-in w2 r u)) (let z : g ≡ x = omega arith in z) (E .here)) (lt-or-le x g);
-    }
-
-pub up-to-all : (w w1 : Bytes) (r : Ranks) (g : ℕ) → r .entities ≤ g → KeptUpTo w w1 r g → VersionsKept w1 r
-up-to-all w w1 r g h I = record { kept = λ x a. I .trees x (omega arith) a }
 
 pub all-within : (r : Ranks) (w : Bytes) → Ranked w r → Within Entities r 0 (r .entities)
 all-within r w R = record { some = R .some-entity; inside = omega arith }
-
--- the tree of entities over them
-pub trees-kept : (w w′ : Bytes) (r : Ranks) (k : Known) → Ranked w r → VersionsKept w r → Kept (columns 84 116 ∷ []) w w′
-    → (VersionsKept w r → Keeping (entities-row w r) w w′ 0 (r .entities) k) → TreesKept w′ r
-trees-kept w w′ r k R VK K A =
-    let B = A VK in
-    record {
-      versions = versions-stay w w′ r 0 (r .entities) k K R (omega arith) B VK;
-      entities = subst (λ (X : Leaves). KeptTree X w′ 0 (r .entities)) (sym (row-same (columns 84 116 ∷ []) w w′ K digests-beside r Entities)) (B .tree-kept);
-    }
 
 -- ---- when neither leaves nor digests change
 

@@ -3,10 +3,11 @@ use mathlib.Core.Path.{_≡_}
 use mathlib.Core.List.{List, [], _∷_}
 use Prim.Native.Nat.{ℕ, _+_, _-_, _*_, _≤_, _<_}
 use lib.ListN.{length}
-use Rattle.fields.specs.Fields.{part, written}
+use Rattle.fields.specs.Fields.{written}
 use Rattle.model.specs.Numbers.{Bytes, joined}
 use Rattle.model.specs.Accumulator.{Subtree as Known, Tree, tip, branch, tree}
 use Rattle.graph.specs.Table.{columns, Kept}
+use Rattle.leaves.specs.Leaves.{digest-in}
 use Rattle.accumulator.specs.Halves.{folded, leaf-count, no-known, path-to}
 use Rattle.ranks.specs.declared.Ranks.{Ranks}
 use Rattle.ranks.specs.Ranked.{first-in, count-in}
@@ -14,9 +15,9 @@ use Rattle.kept_trees.specs.declared.Row.{Row}
 use Rattle.kept_trees.specs.declared.Row.the-variants.{Versions, Entities}
 use Rattle.kept_trees.specs.Leaves.{Leaves, stretch, tree-of, versions-row, entities-row}
 
--- the digest kept in a slot
-abbrev pub digest-in : Bytes → ℕ → Bytes
-digest-in work s = part work (128 * s + 84) 32
+-- before a tree is built, the digests of its leaves are kept in their slots: here of n leaves from the i-th on
+pub record LeafDigests (R : Leaves) (work : Bytes) (i n : ℕ) : Type 0 where
+  pub here : (x : ℕ) → i ≤ x → x < i + n → digest-in work (R .slot x) ≡ R .leaf x .digest
 
 -- the inner digests of a tree whose first leaf is the i-th
 unfoldable pub Keeps : Leaves → Bytes → ℕ → Tree Known → Type 0
@@ -68,10 +69,3 @@ pub record TreesKept (work : Bytes) (r : Ranks) : Type 0 where
 abbrev pub Ready : Row → Bytes → Ranks → Type 0
 Ready Versions work r = Unit {0}
 Ready Entities work r = VersionsKept work r
-
--- the tree of entity g is kept now, and the trees of the others are as before
-pub record EntityKept (work work′ : Bytes) (r : Ranks) (g : ℕ) : Type 0 where
-  pub kept : Kept (columns 84 116 ∷ []) work work′
-  pub here : KeptTree (versions-row work′) work′ (first-in work′ r g) (count-in work′ r g)
-  pub others : (x : ℕ) → x < r .entities → (x ≡ g → ⊥) → KeptTree (versions-row work) work (first-in work r x) (count-in work r x)
-      → KeptTree (versions-row work′) work′ (first-in work′ r x) (count-in work′ r x)

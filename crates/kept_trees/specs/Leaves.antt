@@ -5,7 +5,7 @@ use Rattle.model.specs.Numbers.{Bytes}
 use Rattle.model.specs.Accumulator.{Subtree as Known, letter-N, letter-P}
 use Rattle.accumulator.specs.Trees.{version-leaf, group-leaf}
 use Rattle.accumulator.specs.Halves.{subtree-of}
-use Rattle.trees.specs.Tables.{slot-leaf}
+use Rattle.leaves.specs.Leaves.{slot-leaf}
 use Rattle.ranks.specs.declared.Ranks.{Ranks}
 use Rattle.ranks.specs.Ranked.{slot-at, first-in, count-in, entity-at}
 use Rattle.kept_trees.specs.declared.Row.{Row}

@@ -1,3 +1,4 @@
 -- What the contracts of this crate cite.
 pub mod Leaves
 pub mod Kept
+pub mod Entities

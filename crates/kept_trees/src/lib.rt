@@ -4,11 +4,13 @@ use accumulator::Subtree;
 use accumulator::VersionTree;
 use graph::KEPT_COLUMN;
 use graph::SLOT_WIDTH;
+use lanes::LANES;
 use model::LETTER_N;
 use model::LETTER_P;
 use ranks::Ranks;
 use strings::BRANCH_WIDTH;
 use strings::DIGEST_WIDTH;
+use strings::G_WIDTH;
 ghost use mathlib.Core.Path.{_≡_};
 ghost use mathlib.Core.List.{[], _∷_};
 ghost use Prim.Native.Nat.{_+_, _-_, _*_, _≤_, _<_};
@@ -19,7 +21,8 @@ ghost use Rattle.graph.specs.Table.{Slot, columns, Kept};
 ghost use Rattle.accumulator.specs.Trees.{known};
 ghost use Rattle.ranks.specs.Ranked.{first-in, count-in, Ranked};
 ghost use Rattle.kept_trees.specs.Leaves.{tree-of, version-known, versions-row, row-of, letter-of, size-of, Within};
-ghost use Rattle.kept_trees.specs.Kept.{digest-in, KeptTree, node-kept, Stored, Keeping, WayPut, VersionsKept, TreesKept, Ready, EntityKept};
+ghost use Rattle.kept_trees.specs.Kept.{LeafDigests, KeptTree, node-kept, Stored, Keeping, WayPut, VersionsKept, TreesKept, Ready};
+ghost use Rattle.kept_trees.specs.Entities.{SlotsAt, EntityLeaves, EntityKept, KeptTo, EntityStrings, EntitiesFilled};
 
 // ---- rows of leaves
 
@@ -63,21 +66,6 @@ fn slot_of(row: Row, work: &[u8], ranks: Ranks, i: usize) -> usize
 
 // ---- kept digests
 
-fn kept_digest(work: &[u8], slot: usize) -> [u8; 32]
-    requires { ⌜ Slot (now work) slot ⌝ }
-    ensures { λ r. ⌜ r ≡ digest-in (now (work .entry)) slot ⌝ }
-{
-    let mut digest = [0u8; DIGEST_WIDTH];
-    fields::copy(
-        &mut digest,
-        0,
-        work,
-        SLOT_WIDTH * slot + KEPT_COLUMN,
-        DIGEST_WIDTH,
-    );
-    digest
-}
-
 fn keep_digest(work: &mut [u8], slot: usize, tree: Subtree)
     requires { ⌜ Slot (now work) slot ⌝ }
     ensures { λ _. ⌜ Stored (now (work .entry)) (now (work .exit)) slot (tree .digest) ⌝ }
@@ -101,7 +89,7 @@ fn kept_node(row: Row, work: &[u8], ranks: Ranks, from: usize, n: usize, k: usiz
 {
     let least = key_at(row, work, ranks, from);
     let greatest = key_at(row, work, ranks, from + (n - 1));
-    let digest = kept_digest(work, slot_of(row, work, ranks, from + k));
+    let digest = leaves::kept_digest(work, slot_of(row, work, ranks, from + k));
     Subtree {
         least: least,
         greatest: greatest,
@@ -114,7 +102,7 @@ fn version_at(work: &[u8], ranks: Ranks, rank: usize, constants: &[u32; 64]) -> 
     requires { ⌜ (Ranked (now work) ranks × (rank < ranks .versions)) × (now constants ≡ K) ⌝ }
     ensures { λ r. ⌜ known r ≡ version-known (now (work .entry)) rank ⌝ }
 {
-    let leaf = trees::leaf_of(work, ranks::slot_at(work, rank), constants);
+    let leaf = leaves::leaf_of(work, ranks::slot_at(work, rank), constants);
     leaf.0
 }
 
@@ -167,7 +155,37 @@ pub fn kept_tree(
 
 // ---- keeping
 
-// Builds the tree of n leaves of a row, and keeps its inner digests.
+// The slots of the versions of some ranks.
+fn slots_at(work: &[u8], ranks: Ranks, from: usize, count: usize) -> [usize; LANES]
+    requires { ⌜ Ranked (now work) ranks × (count ≤ 8) × (from + count ≤ ranks .versions) ⌝ }
+    ensures { λ r. ⌜ SlotsAt (now (work .entry)) from count r ⌝ }
+{
+    let mut slots = [0usize; LANES];
+    let mut l: usize = 0;
+    while l < count {
+        slots[l] = ranks::slot_at(work, from + l);
+        l += 1;
+    }
+    slots
+}
+
+// Keeps the digest of each version's leaf, in the slot of the version's rank.
+fn keep_leaves(work: &mut [u8], ranks: Ranks, constants: &[u32; 64])
+    requires { ⌜ Ranked (now work) ranks × (now constants ≡ K) ⌝ }
+    ensures kept { λ _. ⌜ Kept (columns 84 116 ∷ []) (now (work .entry)) (now (work .exit)) ⌝ }
+    ensures leaves { λ _. ⌜ LeafDigests (versions-row (now (work .exit))) (now (work .exit)) 0 (ranks .versions) ⌝ }
+{
+    let mut i: usize = 0;
+    while i < ranks.versions {
+        let count = lanes::together(ranks.versions - i);
+        let slots = slots_at(work, ranks, i, count);
+        leaves::keep(work, slots, count, i, constants);
+        i += count;
+    }
+}
+
+// Builds the tree of n leaves of a row, whose digests are kept in their slots, and keeps its inner digests instead: a leaf's digest is read
+// before that of a tree takes its place.
 fn keep(
     row: Row,
     work: &mut [u8],
@@ -176,12 +194,12 @@ fn keep(
     n: usize,
     constants: &[u32; 64],
 ) -> Subtree
-    requires { ⌜ (Ranked (now work) ranks × Within row ranks from n) × (now constants ≡ K) ⌝ }
+    requires { ⌜ (Ranked (now work) ranks × Within row ranks from n × LeafDigests (row-of row (now work) ranks) (now work) from n) × (now constants ≡ K) ⌝ }
     ensures kept { λ _. ⌜ Kept (columns 84 116 ∷ []) (now (work .entry)) (now (work .exit)) ⌝ }
-    ensures tree { λ r. ⌜ (Ready row (now (work .entry)) ranks → Keeping (row-of row (now (work .entry)) ranks) (now (work .entry)) (now (work .exit)) from n (known r)) ⌝ }
+    ensures tree { λ r. ⌜ Keeping (row-of row (now (work .entry)) ranks) (now (work .entry)) (now (work .exit)) from n (known r) ⌝ }
 {
     if n <= 1 {
-        return leaf_at(row, work, ranks, from, constants);
+        return kept_node(row, work, ranks, from, n, 0);
     }
     let k = accumulator::split(n);
     let left = keep(row, work, ranks, from, k, constants);
@@ -193,24 +211,72 @@ fn keep(
 }
 
 // Keeps the tree of the g-th entity's versions.
-fn keep_entity(work: &mut [u8], ranks: Ranks, g: usize, constants: &[u32; 64])
-    requires { ⌜ (Ranked (now work) ranks × (g < ranks .entities)) × (now constants ≡ K) ⌝ }
-    ensures { λ _. ⌜ EntityKept (now (work .entry)) (now (work .exit)) ranks g ⌝ }
+fn keep_entity(work: &mut [u8], ranks: Ranks, g: usize, constants: &[u32; 64]) -> VersionTree
+    requires { ⌜ (Ranked (now work) ranks × (g < ranks .entities) × EntityLeaves (now work) ranks g) × (now constants ≡ K) ⌝ }
+    ensures kept { λ _. ⌜ Kept (columns 84 116 ∷ []) (now (work .entry)) (now (work .exit)) ⌝ }
+    ensures tree { λ r. ⌜ EntityKept (now (work .entry)) (now (work .exit)) ranks g (known (r .0)) ⌝ }
 {
     let from = ranks::first_at(work, ranks, g);
     let n = ranks::count_at(work, ranks, g);
-    keep(Row::Versions, work, ranks, from, n, constants);
+    VersionTree(keep(Row::Versions, work, ranks, from, n, constants))
 }
 
-fn keep_versions(work: &mut [u8], ranks: Ranks, constants: &[u32; 64])
-    requires { ⌜ Ranked (now work) ranks × (now constants ≡ K) ⌝ }
+// Keeps the trees of some entities' versions; their strings G are written to b, one behind the other.
+fn keep_batch(
+    b: &mut [u8; LANES * G_WIDTH],
+    work: &mut [u8],
+    ranks: Ranks,
+    g: usize,
+    count: usize,
+    constants: &[u32; 64],
+)
+    requires { ⌜ ((length (now b) ≡ 456) × KeptTo (now work) ranks g g × (count ≤ 8) × (g + count ≤ ranks .entities)) × (now constants ≡ K) ⌝ }
     ensures kept { λ _. ⌜ Kept (columns 84 116 ∷ []) (now (work .entry)) (now (work .exit)) ⌝ }
-    ensures trees { λ _. ⌜ VersionsKept (now (work .exit)) ranks ⌝ }
+    ensures trees { λ _. ⌜ KeptTo (now (work .exit)) ranks g (g + count) ⌝ }
+    ensures strings { λ _. ⌜ EntityStrings (now (work .exit)) ranks g count (now (b .exit)) ⌝ }
 {
+    let mut l: usize = 0;
+    while l < count {
+        let versions = keep_entity(work, ranks, g + l, constants);
+        let entity = ranks::entity_at(work, ranks, g + l);
+        accumulator::put_group(b, G_WIDTH * l, entity, versions);
+        l += 1;
+    }
+}
+
+// Keeps the digests of some entities' leaves, each in the slot of its first version's rank.
+fn put_digests(work: &mut [u8], ranks: Ranks, g: usize, count: usize, digests: [u8; 256])
+    requires { ⌜ Ranked (now work) ranks × (count ≤ 8) × (g + count ≤ ranks .entities) ⌝ }
+    ensures { λ _. ⌜ EntitiesFilled (now (work .entry)) ranks g digests count (now (work .exit)) ⌝ }
+{
+    let mut l: usize = 0;
+    while l < count {
+        let slot = ranks::first_at(work, ranks, g + l);
+        fields::copy(
+            work,
+            SLOT_WIDTH * slot + KEPT_COLUMN,
+            &digests,
+            DIGEST_WIDTH * l,
+            DIGEST_WIDTH,
+        );
+        l += 1;
+    }
+}
+
+// Keeps the trees of all entities' versions, and the digests of the entities' leaves.
+fn keep_entities(work: &mut [u8], ranks: Ranks, constants: &[u32; 64])
+    requires { ⌜ KeptTo (now work) ranks 0 0 × (now constants ≡ K) ⌝ }
+    ensures kept { λ _. ⌜ Kept (columns 84 116 ∷ []) (now (work .entry)) (now (work .exit)) ⌝ }
+    ensures trees { λ _. ⌜ KeptTo (now (work .exit)) ranks (ranks .entities) (ranks .entities) ⌝ }
+{
+    let mut b = [0u8; LANES * G_WIDTH];
     let mut g: usize = 0;
     while g < ranks.entities {
-        keep_entity(work, ranks, g, constants);
-        g += 1;
+        let count = lanes::together(ranks.entities - g);
+        keep_batch(&mut b, work, ranks, g, count, constants);
+        let digests = lanes::digests(&b, G_WIDTH, G_WIDTH, count, constants);
+        put_digests(work, ranks, g, count, digests);
+        g += count;
     }
 }
 
@@ -220,7 +286,8 @@ pub fn keep_trees(work: &mut [u8], ranks: Ranks, constants: &[u32; 64])
     ensures kept { λ _. ⌜ Kept (columns 84 116 ∷ []) (now (work .entry)) (now (work .exit)) ⌝ }
     ensures trees { λ _. ⌜ TreesKept (now (work .exit)) ranks ⌝ }
 {
-    keep_versions(work, ranks, constants);
+    keep_leaves(work, ranks, constants);
+    keep_entities(work, ranks, constants);
     keep(Row::Entities, work, ranks, 0, ranks.entities, constants);
 }
 

@@ -11,15 +11,16 @@ use lib.Dec.{T, ltb}
 use lib.ListN.{length, take, drop, getD, length-append, length-drop, take-append-drop, List·getD-append}
 use lib.Seq.{length-take-le, getD-append-add}
 use Rattle.model.specs.Numbers.{Bytes, joined}
-use Rattle.model.specs.Accumulator.{Subtree as Known, Tree, tip, branch, branch-string, parent, largest-power-below, tree, Layout, subtree, string-of}
+use Rattle.model.specs.Accumulator.{Subtree as Known, Tree, tip, branch, branch-string, largest-power-below, tree, Layout, subtree, string-of}
 use Rattle.model.specs.Question.{SearchEnd, Descent, Opened, stop, after, open-tree}
-use Rattle.model.proofs.Strings.{H-length, joined-append}
+use Rattle.model.proofs.Strings.{joined-append}
 use Rattle.model.proofs.Trees.{tree-one, tree-halves}
 use Rattle.model.proofs.Open.{branch-length}
 use Rattle.model.proofs.Walk.{stopped-at, opened-tip, opened-branch}
 use Rattle.graph.proofs.Nodes.{map-length}
 use Rattle.accumulator.specs.Halves.{own, subtree-of, path-to}
 use Rattle.accumulator.proofs.Splitting.{split-bounds, subtree-of-tree, map-take, map-drop}
+use Rattle.accumulator.proofs.Strings.{digest-32}
 use Rattle.accumulator.proofs.Opening.{path-none, path-two}
 use Rattle.proof_writer.specs.Walks.{half-of, onto, Walked}
 
@@ -30,11 +31,6 @@ onto-none w = refl
 onto-more : (ss : List Bytes) (x : Bytes) (w : Opened) → onto ss (after x w) ≡ onto (ss ++ (x ∷ [])) w
 unfolding onto
 onto-more ss x w = ap (λ (ys : List Bytes). record { end = w .end; opened = ys }) (sym (append-assoc ss (x ∷ []) (w .opened)))
-
-pub digest-32 : {A : Type 0} (l : Layout A) (t : Tree A) → length (subtree l t .digest) ≡ 32
-unfolding subtree parent
-digest-32 l (tip x) = H-length (l .string x)
-digest-32 l (branch s t) = H-length (branch-string (l .inner-letter) (subtree l s) (subtree l t))
 
 -- ---- a descent
 

@@ -30,7 +30,7 @@ use Rattle.kept_trees.specs.Leaves.{tree-of, versions-row}
 use Rattle.kept_trees.proofs.Graphs.{versions-stretch}
 use Rattle.proof_writer.specs.declared.Stretch.{Stretch}
 use Rattle.proof_writer.specs.Spans.{versions-in, span-strings}
-use Rattle.proof_writer.proofs.Descents.{digest-32}
+use Rattle.accumulator.proofs.Strings.{digest-32}
 use Rattle.proof_writer.proofs.Seeking.{not-below, first-time, last-time}
 use Rattle.proof_writer.proofs.Writing.{version-77}
 

@@ -22,7 +22,8 @@ use Rattle.accumulator.specs.Trees.{leafOf}
 use Rattle.accumulator.specs.Halves.{own, subtree-of, path-to}
 use Rattle.accumulator.proofs.Splitting.{subtree-of-tree}
 use Rattle.accumulator.proofs.Strings.{then}
-use Rattle.trees.specs.Tables.{slot-leaf, Graphed, groups, versions, version-at}
+use Rattle.leaves.specs.Leaves.{slot-leaf}
+use Rattle.trees.specs.Tables.{Graphed, groups, versions, version-at}
 use Rattle.trees.proofs.EntityWalk.{slot-leaf-is}
 use Rattle.ranks.specs.declared.Ranks.{Ranks}
 use Rattle.ranks.specs.Ranked.{first-in, count-in, entity-at}
@@ -35,7 +36,7 @@ use Rattle.proof_writer.specs.declared.EntityPath.{EntityPath}
 use Rattle.proof_writer.specs.declared.Planned.{Planned}
 use Rattle.proof_writer.specs.declared.Planned.the-variants.{NoEntity, Unmet, Found, Listed}
 use Rattle.proof_writer.specs.Plans.{listed-strings, reached-entity, entity-path, entity-string, version-path, strings-of, path-of, length-of, PathIs, WayIs, RestIs, PlanIs, Plan, HasPlan, HasPath, HasWay, HasList, front-bytes, entity-bytes, walk-bytes, list-bytes}
-use Rattle.proof_writer.proofs.Descents.{digest-32}
+use Rattle.accumulator.proofs.Strings.{digest-32}
 use Rattle.proof_writer.proofs.Planning.{reached-leaves}
 
 -- ---- R and P

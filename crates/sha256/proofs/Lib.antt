@@ -4,7 +4,7 @@ mod Bits
 mod Rotations
 mod Sums
 mod Schedule
-mod Messages
-mod Padding
+pub mod Messages
+pub mod Padding
 mod Arrays
 mod Examples

@@ -27,14 +27,14 @@ fn big_sigma1(x: u32) -> u32
     ((x >> 6) | (x << 26)) ^ ((y >> 11) | (y << 21))
 }
 
-fn small_sigma0(x: u32) -> u32
+pub fn small_sigma0(x: u32) -> u32
     ensures { λ r. ⌜ r ≡ σ0 x ⌝ }
 {
     let y = x ^ ((x >> 11) | (x << 21));
     ((y >> 7) | (y << 25)) ^ (x >> 3)
 }
 
-fn small_sigma1(x: u32) -> u32
+pub fn small_sigma1(x: u32) -> u32
     ensures { λ r. ⌜ r ≡ σ1 x ⌝ }
 {
     let y = x ^ ((x >> 2) | (x << 30));
@@ -69,7 +69,7 @@ fn second_sum(v: [u32; 8]) -> u32
     wrapping_add_u32(big_sigma0(v[0]), majority(v[0], v[1], v[2]))
 }
 
-fn one_round(v: [u32; 8], k: u32, w: u32) -> [u32; 8]
+pub fn one_round(v: [u32; 8], k: u32, w: u32) -> [u32; 8]
     ensures { λ r. ⌜ r ≡ round v k w ⌝ }
 {
     let t1 = first_sum(v, k, w);
@@ -217,7 +217,7 @@ fn pad_end(b: &mut [u8; 128], m: &[u8], at: usize, n: usize, bits: u64)
     b[n] = 128;
 }
 
-fn word_bytes(h: [u32; 8]) -> [u8; 32]
+pub fn word_bytes(h: [u32; 8]) -> [u8; 32]
     ensures { λ r. ⌜ r ≡ bytes h ⌝ }
 {
     let mut d = [0u8; 32];
@@ -240,7 +240,7 @@ fn closed(h: [u32; 8], m: &[u8], at: usize, n: usize, bits: u64, constants: &[u3
 }
 
 // The initial hash value of section 5.3.3.
-fn initial() -> [u32; 8]
+pub fn initial() -> [u32; 8]
     ensures { λ r. ⌜ r ≡ H0 ⌝ }
 {
     [
@@ -256,7 +256,7 @@ fn initial() -> [u32; 8]
 }
 
 // The number of bits in n bytes, modulo 2^64.
-fn in_bits(n: u64) -> u64
+pub fn in_bits(n: u64) -> u64
     ensures { λ r. ⌜ r ≡ 8 * n % 2 ^ 64 ⌝ }
 {
     let two = wrapping_add_u64(n, n);

@@ -26,8 +26,7 @@ use Rattle.question.specs.Ways.{wayOf}
 use Rattle.graph.specs.Table.{node-in, nodes-in, Ready, Columns, outside, Kept}
 use Rattle.graph.specs.Links.{Starts}
 use Rattle.graph.proofs.Slots.{kept-none, kept-then}
-use Rattle.graph.proofs.Nodes.{length-nodes, node-at-nodes, node-kept, nodes-kept}
-use Rattle.graph.proofs.Incoming.{starts}
+use Rattle.graph.proofs.Nodes.{length-nodes, node-at-nodes, node-kept, nodes-kept, starts}
 use Rattle.marks.specs.Marks.{mark-column, is-marked, MarkSet, StartsMarked}
 use Rattle.trace_writer.specs.Marks.{starts-inside, OnlyMarked, Spread, MarksDone}
 use Rattle.trace_writer.proofs.Marking.{no-T, members-are}

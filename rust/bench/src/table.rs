@@ -79,6 +79,8 @@ pub struct Row {
     pub seconds: f64,
     /// The proved library's speed, as a multiple of the Rust version's.
     pub to_rust: f64,
+    /// The same, with every string hashed by itself in the Rust version; none for a call that builds no trees.
+    pub to_one_by_one: Option<f64>,
     /// The call's time, as a multiple of OpenSSL's for the same strings; none without OpenSSL or strings.
     pub to_openssl: Option<f64>,
     /// None without valgrind.
@@ -91,13 +93,13 @@ pub struct Row {
     pub heap: usize,
 }
 
-const HEADINGS: [&str; 14] = [
-    "call", "asked", "shape", "records", "ns", "to Rust", "to OpenSSL", "instructions", "growth", "input", "work", "output", "stack",
-    "Rust heap",
+const HEADINGS: [&str; 15] = [
+    "call", "asked", "shape", "records", "ns", "to Rust", "one by one", "to OpenSSL", "instructions", "growth", "input", "work", "output",
+    "stack", "Rust heap",
 ];
 /// The columns before the first number.
 const NAMES: usize = 3;
-const WIDTHS: [usize; HEADINGS.len()] = [10, 14, 5, 9, 7, 7, 10, 12, 6, 6, 6, 6, 9, 9];
+const WIDTHS: [usize; HEADINGS.len()] = [10, 14, 5, 9, 7, 7, 10, 10, 12, 6, 6, 6, 6, 9, 9];
 
 impl Row {
     fn a_record(&self, number: f64) -> f64 {
@@ -127,6 +129,7 @@ impl Row {
             grouped(size),
             short(self.a_record(self.seconds * 1e9)),
             ratio(Some(self.to_rust)),
+            ratio(self.to_one_by_one),
             ratio(self.to_openssl),
             self.instructions_a_record().map_or(NONE.to_string(), short),
             ratio(self.growth(before)),
@@ -181,7 +184,7 @@ mod tests {
 
     fn row(call: Name, shape: &'static str, size: usize, instructions: Option<u64>) -> Row {
         let subject = Subject { call, direction: "-", shape, size };
-        Row { subject, seconds: 0.0, to_rust: 1.0, to_openssl: None, instructions, lent: [0; 3], stack: 0, heap: 0 }
+        Row { subject, seconds: 0.0, to_rust: 1.0, to_one_by_one: None, to_openssl: None, instructions, lent: [0; 3], stack: 0, heap: 0 }
     }
 
     #[test]
@@ -212,20 +215,23 @@ mod tests {
 
     #[test]
     fn a_line_is_by_the_record() {
-        let subject = Subject { call: Name::Check, direction: "forward", shape: "busy", size: 2_000 };
+        let subject = Subject { call: Name::Answer, direction: "forward", shape: "busy", size: 2_000 };
         let row = Row {
             subject,
             seconds: 0.003,
             to_rust: 1.059,
+            to_one_by_one: Some(1.254),
             to_openssl: Some(1.5),
             instructions: Some(19_000_000),
             lent: [44_000, 256_000, 0],
             stack: 1_234_567,
             heap: 90_000,
         };
-        let cells = "check forward busy 2,000 1,500 1.06 1.50 9,500 - 22.0 128 0 1,234,567 45.0";
-        assert_eq!(row.line(&[]).split_whitespace().collect::<Vec<_>>().join(" "), cells);
+        let cells = |row: &Row| row.line(&[]).split_whitespace().collect::<Vec<_>>().join(" ");
+        assert_eq!(cells(&row), "answer forward busy 2,000 1,500 1.06 1.25 1.50 9,500 - 22.0 128 0 1,234,567 45.0");
         assert_eq!(row.line(&[]).len(), headings().len());
+        let other = Row { to_one_by_one: None, ..row };
+        assert_eq!(cells(&other), "answer forward busy 2,000 1,500 1.06 - 1.50 9,500 - 22.0 128 0 1,234,567 45.0");
     }
 
     #[test]

@@ -4,6 +4,7 @@
 
 use std::fmt;
 
+use reference::hash::OneByOne;
 use reference::Question;
 use viewer::plain as exported;
 
@@ -114,4 +115,15 @@ side! {
 side! {
     /// The Rust version's call.
     plain_rust, reference
+}
+
+/// The Rust version's call with every string hashed by itself; none for a call that builds no trees.
+#[inline]
+pub fn one_by_one(name: Name, question: &Question, memory: Memory) -> Option<Fields> {
+    let Memory { input, work, out, .. } = memory;
+    match name {
+        Name::Commitment => Some(fields!(reference::commitment_by(&mut OneByOne, input, work, out), number position)),
+        Name::Answer => Some(fields!(reference::answer_by(&mut OneByOne, question, input, work, out), number position length)),
+        _ => None,
+    }
 }

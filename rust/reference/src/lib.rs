@@ -18,6 +18,7 @@ pub mod graph;
 pub mod hash;
 pub mod hex;
 pub mod host;
+pub mod lanes;
 pub mod listing;
 pub mod log;
 mod question;
@@ -29,6 +30,8 @@ pub mod trace;
 pub mod tree;
 pub mod vectors;
 
+use hash::{Hash, H};
+use host::Host;
 pub use question::{Asked, One, Question, Relation, Sought, Span, Verdict, Way, BETWEEN, DIRECTIONS};
 pub use refusal::{Refusal, WORK};
 use refusal::{enough_work, refuse};
@@ -94,15 +97,19 @@ pub fn listing(input: &[u8], out: &mut [u8]) -> Written {
 
 /// The commitment of a log, 32 bytes. Log, 12, 13.
 pub fn commitment(log: &[u8], work: &mut [u8], out: &mut [u8]) -> Outcome {
-    let length = work.len();
-    work.fill(0);
-    outcome(commitment_result(log, length, out))
+    commitment_by(&mut H, log, work, out)
 }
 
-fn commitment_result(log: &[u8], work: usize, out: &mut [u8]) -> Result<usize, Refusal> {
+pub fn commitment_by(hash: &mut impl Hash, log: &[u8], work: &mut [u8], out: &mut [u8]) -> Outcome {
+    let length = work.len();
+    work.fill(0);
+    outcome(commitment_result(hash, log, length, out))
+}
+
+fn commitment_result(hash: &mut impl Hash, log: &[u8], work: usize, out: &mut [u8]) -> Result<usize, Refusal> {
     let records = log::read(log)?;
     enough_work(work, records.len())?;
-    write(&host::Host::new(&records).commitment(), out)
+    write(&Host::by(hash, &records).commitment_by(hash), out)
 }
 
 /// The answer to a question about a log. 11, 25, log, 12, 13.
@@ -115,16 +122,20 @@ pub fn answer(
     work: &mut [u8],
     out: &mut [u8],
 ) -> Written {
-    let length = work.len();
-    work.fill(0);
-    written(answer_result(&Question { direction, entity, time, until }, log, length, out))
+    answer_by(&mut H, &Question { direction, entity, time, until }, log, work, out)
 }
 
-fn answer_result(question: &Question, log: &[u8], work: usize, out: &mut [u8]) -> Result<usize, Refusal> {
+pub fn answer_by(hash: &mut impl Hash, question: &Question, log: &[u8], work: &mut [u8], out: &mut [u8]) -> Written {
+    let length = work.len();
+    work.fill(0);
+    written(answer_result(hash, question, log, length, out))
+}
+
+fn answer_result(hash: &mut impl Hash, question: &Question, log: &[u8], work: usize, out: &mut [u8]) -> Result<usize, Refusal> {
     let asked = question.asked()?;
     let records = log::read(log)?;
     enough_work(work, records.len())?;
-    write(&host::Host::new(&records).answer_to(&mut hash::H, &asked), out)
+    write(&Host::by(hash, &records).answer_to(hash, &asked), out)
 }
 
 /// The check of an answer. 11, 25, 14, the proof, the trace; in direction 6 then 13, and the list is the output's first bytes.

@@ -8,7 +8,7 @@
 pub type Digest = [u8; 32];
 
 /// Bytes in a block.
-const BLOCK: usize = 64;
+pub(crate) const BLOCK: usize = 64;
 
 /// The first 32 bits of the fractional parts of the cube roots of the first 64 primes.
 pub const ROUND_CONSTANTS: [u32; 64] = [
@@ -81,14 +81,27 @@ impl Sha256 {
 }
 
 /// Pads the message's last part, shorter than a block, and gives the digest.
-/// The bit length is taken modulo 2^64.
 fn finish(mut state: [u32; 8], rest: &[u8], length: u64) -> Digest {
     let mut last = [0u8; 2 * BLOCK];
+    let end = pad(&mut last, rest, length);
+    compress(&mut state, &last[..end]);
+    digest(state)
+}
+
+/// Puts the message's last part, shorter than a block, and its padding into zeros, and gives the end: that of one block or two.
+/// The bit length is taken modulo 2^64.
+#[inline(always)]
+pub(crate) fn pad(last: &mut [u8; 2 * BLOCK], rest: &[u8], length: u64) -> usize {
     last[..rest.len()].copy_from_slice(rest);
     last[rest.len()] = 0x80;
     let end = if rest.len() < BLOCK - 8 { BLOCK } else { 2 * BLOCK };
     last[end - 8..end].copy_from_slice(&length.wrapping_mul(8).to_be_bytes());
-    compress(&mut state, &last[..end]);
+    end
+}
+
+/// The bytes of the last state.
+#[inline(always)]
+pub(crate) fn digest(state: [u32; 8]) -> Digest {
     let mut digest = [0u8; 32];
     for (bytes, word) in digest.chunks_exact_mut(4).zip(state) {
         bytes.copy_from_slice(&word.to_be_bytes());
@@ -97,29 +110,35 @@ fn finish(mut state: [u32; 8], rest: &[u8], length: u64) -> Digest {
 }
 
 #[inline(always)]
-fn choose(x: u32, y: u32, z: u32) -> u32 {
+pub(crate) fn choose(x: u32, y: u32, z: u32) -> u32 {
     z ^ (x & (y ^ z))
 }
 
+/// The majority of a, b and c, from b and the exclusive ors of a and b and of b and c.
 #[inline(always)]
-fn big_sigma0(x: u32) -> u32 {
+pub(crate) fn majority(b: u32, ab: u32, bc: u32) -> u32 {
+    b ^ (ab & bc)
+}
+
+#[inline(always)]
+pub(crate) fn big_sigma0(x: u32) -> u32 {
     x.rotate_right(2) ^ x.rotate_right(13) ^ x.rotate_right(22)
 }
 
 #[inline(always)]
-fn big_sigma1(x: u32) -> u32 {
+pub(crate) fn big_sigma1(x: u32) -> u32 {
     x.rotate_right(6) ^ x.rotate_right(11) ^ x.rotate_right(25)
 }
 
 /// Rotations by 7 and 18, and a shift by 3.
 #[inline(always)]
-fn small_sigma0(x: u32) -> u32 {
+pub(crate) fn small_sigma0(x: u32) -> u32 {
     (x.rotate_right(11) ^ x).rotate_right(7) ^ (x >> 3)
 }
 
 /// Rotations by 17 and 19, and a shift by 10.
 #[inline(always)]
-fn small_sigma1(x: u32) -> u32 {
+pub(crate) fn small_sigma1(x: u32) -> u32 {
     (x.rotate_right(2) ^ x).rotate_right(17) ^ (x >> 10)
 }
 
@@ -151,8 +170,7 @@ fn schedule(block: &[u8; BLOCK]) -> [u32; 64] {
     w
 }
 
-/// One round. `bc` holds the exclusive or of b and c, so that the majority
-/// of a, b and c takes one exclusive or, one and, and one exclusive or more.
+/// One round. `bc` holds the exclusive or of b and c, which the round before worked out as that of its own a and b.
 macro_rules! round {
     ($a:ident $b:ident $c:ident $d:ident $e:ident $f:ident $g:ident $h:ident, $bc:ident, $w:expr) => {
         let t = $h
@@ -161,7 +179,7 @@ macro_rules! round {
             .wrapping_add(big_sigma1($e));
         $d = $d.wrapping_add(t);
         let ab = $a ^ $b;
-        $h = t.wrapping_add($b ^ (ab & $bc)).wrapping_add(big_sigma0($a));
+        $h = t.wrapping_add(majority($b, ab, $bc)).wrapping_add(big_sigma0($a));
         $bc = ab;
     };
 }

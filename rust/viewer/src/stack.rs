@@ -5,7 +5,7 @@
 pub const HASH: usize = 2_048;
 pub const LOG: usize = 270_336;
 pub const LISTING: usize = 139_264;
-pub const COMMITMENT: usize = 270_336;
+pub const COMMITMENT: usize = 282_624;
 pub const ANSWER: usize = 270_336;
-pub const CHECK: usize = 5_120;
-pub const RECORDS: usize = 3_072;
+pub const CHECK: usize = 14_336;
+pub const RECORDS: usize = 14_336;

@@ -6,7 +6,7 @@ use Rattle.graph.proofs.Slots.{kept-none}
 use Rattle.accumulator.proofs.Splitting.{split-bounds}
 use Rattle.kept_trees.specs.Leaves.{row-of}
 use Rattle.kept_trees.proofs.Building.{keeping-one}
-use Rattle.kept_trees.proofs.Rows.{digests-beside, ranked-same, left-within, right-within, middle-inside, size-small, slot-there, kept-all, keep-two}
+use Rattle.kept_trees.proofs.Rows.{digests-beside, ranked-same, left-within, right-within, middle-inside, size-small, slot-there, left-leaves, right-leaves, kept-all, keep-two}
 use native.Mathlib.Omega.{arith}
 use Prim.Native.Nat.{ℕ, _<_}
 use borrow.Fn.Kinds.{In}
@@ -17,7 +17,7 @@ use Rattle.kept_trees.proofs.+keep.Lts-keep as keep-lts
 use Rattle.accumulator.proofs.parent.Reads as parent-reads
 use Rattle.accumulator.proofs.split.Reads as split-reads
 use Rattle.kept_trees.proofs.keep_digest.Reads as keep-digest-reads
-use Rattle.kept_trees.proofs.leaf_at.Reads as leaf-at-reads
+use Rattle.kept_trees.proofs.kept_node.Reads as kept-node-reads
 use Rattle.kept_trees.proofs.letter_of.Reads as letter-of-reads
 use Rattle.kept_trees.proofs.slot_of.Reads as slot-of-reads
 use Rattle.kept_trees.proofs.+keep.{statement}
@@ -35,8 +35,8 @@ keep-below t = and 2 keep-kinds.ps (falls 2 keep-kinds.ps _<_ μ-keep t) keep.Pr
 -- what the calls ask and tell
 abbrev claims : ℕ → keep-lts.Claims
 claims t = (
-  leaf-at-reads.Asked,
-  leaf-at-reads.Learnt,
+  kept-node-reads.Asked,
+  kept-node-reads.Learnt,
   split-reads.Asked,
   split-reads.Learnt,
   keep-below t,
@@ -51,11 +51,11 @@ claims t = (
   keep-digest-reads.Learnt,
 )
 
-leaf-at-requires : (t : ℕ) → keep-lts.Need-leaf-at-requires (claims t) (keep-at t) keep.Post
-leaf-at-requires t c κs =
+kept-node-requires : (t : ℕ) → keep-lts.Need-kept-node-requires (claims t) (keep-at t) keep.Post
+kept-node-requires t c κs =
     let s = c .before .before .before in
     let P = s .pre .1 .0 in
-    ((P .0, omega (arith, P .1 .some, P .1 .inside)), s .pre .1 .1)
+    (P .0, P .1, omega (arith, P .1 .some))
 
 same-length : (t : ℕ) → keep-lts.Need-same-length (claims t) (keep-at t) keep.Post
 same-length t c = search needs
@@ -65,7 +65,7 @@ returns t c =
     let s = c .before .before .before .before in
     let a = s .args in
     let P = s .pre .1 .0 in
-    (kept-none _ (now (a .work)), λ ready. keeping-one (row-of (a .row) (now (a .work)) (a .ranks)) (now (a .work)) (a .from) (a .n) _ (P .1 .some) (c .before .before .if1 .taken) (c .leaf-at .ensures ready))
+    (kept-none _ (now (a .work)), keeping-one (row-of (a .row) (now (a .work)) (a .ranks)) (now (a .work)) (a .from) (a .n) _ (P .1 .some) (c .before .before .if1 .taken) (c .kept-node .ensures) (P .2))
 
 split-requires : (t : ℕ) → keep-lts.Need-split-requires (claims t) (keep-at t) keep.Post
 split-requires t c κs = search needs
@@ -78,7 +78,7 @@ keep-requires t c κs =
     let q = split-bounds (a .n) (c .before .before .if1 .left) in
     let q1 = q .1 in
     let e = c .before .split .ensures in
-    (omega arith, ((P .0, left-within (a .row) (a .ranks) (a .from) (a .n) _ (c .before .before .if1 .left) e (P .1)), s .pre .1 .1))
+    (omega arith, ((P .0, left-within (a .row) (a .ranks) (a .from) (a .n) _ (c .before .before .if1 .left) e (P .1), left-leaves (a .row) (now (a .work)) (a .ranks) (a .from) (a .n) _ (c .before .before .if1 .left) e (P .2)), s .pre .1 .1))
 
 add-keep : (t : ℕ) → keep-lts.Need-add-keep (claims t) (keep-at t) keep.Post
 add-keep t c =
@@ -103,7 +103,7 @@ keep-requires-2 t c κs =
     let q0 = q .0 in
     let q1 = q .1 in
     let e = c .before .before .before .before .before .split .ensures in
-    (omega arith, ((ranked-same (columns 84 116 ∷ []) (now (a .work)) _ (c .before .before .before .keep .ensures .0) digests-beside (a .ranks) (P .0), right-within (a .row) (a .ranks) (a .from) (a .n) _ (c .before .before .before .before .before .before .if1 .left) e (P .1)), s .pre .1 .1))
+    (omega arith, ((ranked-same (columns 84 116 ∷ []) (now (a .work)) _ (c .before .before .before .keep .ensures .0) digests-beside (a .ranks) (P .0), right-within (a .row) (a .ranks) (a .from) (a .n) _ (c .before .before .before .before .before .before .if1 .left) e (P .1), right-leaves (a .row) (now (a .work)) _ (a .ranks) (a .from) (a .n) _ _ (P .0) (P .1) (c .before .before .before .before .before .before .if1 .left) e (c .before .before .before .keep .ensures .0) (c .before .before .before .keep .ensures .1) (P .2)), s .pre .1 .1))
 
 letter-of-requires : (t : ℕ) → keep-lts.Need-letter-of-requires (claims t) (keep-at t) keep.Post
 letter-of-requires t c κs = search needs
@@ -154,7 +154,7 @@ returns-2 t c =
 
 pub +keep-spec : {M : Type 1} → statement M
 +keep-spec = close μ-keep λ t. keep-lts.spec (claims t) (keep-at t) keep.Post
-    (leaf-at-requires t)
+    (kept-node-requires t)
     (same-length t)
     (returns t)
     (split-requires t)

@@ -1,0 +1,20 @@
+-- The edges into a slot of the table, as its I string says them. Assumes nothing.
+use mathlib.Core.List.{List, map}
+use Prim.Native.Nat.{ℕ, _*_}
+use Rattle.fields.specs.Fields.{part}
+use Rattle.model.specs.Numbers.{Bytes, joined}
+use Rattle.model.specs.Graph.{InEdge}
+use Rattle.model.specs.Digest.{Link, link, edge-part}
+use Rattle.graph.specs.Table.{slot-width, node-in}
+
+-- an edge into slot i, with the incoming digest of its start
+unfoldable pub in-link : Bytes → ℕ → InEdge → Link
+in-link work i e = link e (node-in work (e .start)) (node-in work i) (part work (slot-width * e .start) 32)
+
+-- the edges into slot i
+unfoldable pub in-links : Bytes → ℕ → List Link
+in-links work i = map (in-link work i) (node-in work i .in-edges)
+
+-- some edges into slot i, as its I string says them
+unfoldable pub in-parts : Bytes → ℕ → List InEdge → Bytes
+in-parts work i es = joined (map edge-part (map (in-link work i) es))

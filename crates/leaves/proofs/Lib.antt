@@ -1,0 +1,2 @@
+-- Laws about the leaves of a node table.
+pub mod Keeping
