@@ -11,8 +11,13 @@ use Rattle.fields.specs.Fields.{decode, part, field}
 use Rattle.fields.proofs.Places.{part-part}
 use Rattle.round_constants.specs.Constants.{K}
 use Rattle.sha256.specs.Sha256.{_⊞_, words, nextWord, extended, schedule, round, rounds, sums, compress}
-use Rattle.lanes.specs.Lanes.{column, wordOn, stateAt, lane, Loaded, Spread, Begun, Turned, Added}
+use Rattle.lanes.specs.Lanes.{wordOn, stateAt, lane, Loaded, Spread, Begun, Turned, Added}
 use Rattle.lanes.proofs.Places.{eight}
+
+-- the first n words of message l
+unfoldable column : ℕ → ℕ → List ℕ → List ℕ
+column zero l w = []
+column (suc n) l w = column n l w ++ (getD w (8 * n + l) 0 ∷ [])
 
 length-column : (n l : ℕ) (w : List ℕ) → length (column n l w) ≡ n
 unfolding column
@@ -87,7 +92,7 @@ module _ (l : ℕ) (small : l < 8) where
       eight (s .front-a (l + 24) (omega arith)) (s .front-a (l + 16) (omega arith)) (s .front-a (l + 8) (omega arith)) (s .front-a l (omega arith))
       (s .front-e (l + 24) (omega arith)) (s .front-e (l + 16) (omega arith)) (s .front-e (l + 8) (omega arith)) (s .front-e l (omega arith))
 
-  pub column-rounds : {k w a₀ e₀ a e : List ℕ} → Turned k w a₀ e₀ 512 a e → (t : ℕ) → t ≤ 64
+  column-rounds : {k w a₀ e₀ a e : List ℕ} → Turned k w a₀ e₀ 512 a e → (t : ℕ) → t ≤ 64
       → stateAt a e (8 * t + l) ≡ rounds t k (column 64 l w) (stateAt a₀ e₀ l)
   unfolding rounds
   column-rounds {k} {w} {a₀} {e₀} {a} {e} s zero h = let z : 8 * 0 + l ≡ l = omega arith in ap (stateAt a e) z ∙ state-front s
@@ -101,7 +106,7 @@ module _ (l : ℕ) (small : l < 8) where
 
   -- ---- the hash value
 
-  pub lane-begun : {h a e : List ℕ} → Begun h 0 32 a → Begun h 32 32 e → stateAt a e l ≡ lane h l
+  lane-begun : {h a e : List ℕ} → Begun h 0 32 a → Begun h 32 32 e → stateAt a e l ≡ lane h l
   unfolding stateAt lane
   lane-begun {h} {a} {e} p q =
       let f : (i j : ℕ) → i < 32 → 0 + i ≡ j → getD a i 0 ≡ getD h j 0 = λ i j k z. p .same i k ∙ place h (0 + i) j z in
@@ -109,7 +114,7 @@ module _ (l : ℕ) (small : l < 8) where
       eight (f (l + 24) (l + 24) (omega arith) (omega arith)) (f (l + 16) (l + 16) (omega arith) (omega arith)) (f (l + 8) (l + 8) (omega arith) (omega arith)) (f l l (omega arith) (omega arith))
       (g (l + 24) (l + 56) (omega arith) (omega arith)) (g (l + 16) (l + 48) (omega arith) (omega arith)) (g (l + 8) (l + 40) (omega arith) (omega arith)) (g l (l + 32) (omega arith) (omega arith))
 
-  pub lane-added : {h a e r : List ℕ} → Added h a e 32 r → lane r l ≡ sums (lane h l) (stateAt a e (8 * 64 + l))
+  lane-added : {h a e r : List ℕ} → Added h a e 32 r → lane r l ≡ sums (lane h l) (stateAt a e (8 * 64 + l))
   unfolding stateAt lane sums
   lane-added {h} {a} {e} {r} s =
       let f : (i j : ℕ) → i < 32 → i + 512 ≡ j → getD r i 0 ≡ getD h i 0 ⊞ getD a j 0 = λ i j k z. s .low i k ∙ ap (λ (x : ℕ). getD h i 0 ⊞ x) (place a (i + 512) j z) in

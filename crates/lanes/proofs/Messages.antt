@@ -18,7 +18,7 @@ use Rattle.sha256.proofs.Size.{length-bytes, length-sha256}
 use Rattle.sha256.proofs.Messages.{Passed, passed-none, passed-more, passed-all, hashed-part}
 use Rattle.sha256.proofs.Padding.{padded-shape, padded-length, digest-message}
 use Rattle.sha256.proofs.Padding as padding
-use Rattle.lanes.specs.Lanes.{lane, Filled, endOf, Padded, spelled, digestsOf}
+use Rattle.lanes.specs.Lanes.{lane, endOf, Padded, spelled, digestsOf}
 use Rattle.lanes.proofs.Places.{before, eight, row-fits, message-fits}
 
 -- ---- the loop over blocks
@@ -46,6 +46,12 @@ pub all-passed : (m : List ℕ) (at step n : ℕ) (h x : List ℕ) (j : ℕ) →
 all-passed m at step n h x j k p l s = passed-all m (at + step * l) n (lane h l) (lane x l) j k (p .each l s)
 
 -- ---- the initial hash value
+
+-- the first n places of r hold the hash value h, in every lane
+pub record Filled (h : List ℕ) (n : ℕ) (r : List ℕ) : Type 0 where
+  pub few : n ≤ 64
+  pub size : length r ≡ 64
+  pub same : (i : ℕ) → i < n → getD r i 0 ≡ getD h (4 * (i / 32) + (3 - i / 8 % 4)) 0
 
 pub filled-none : (h r : List ℕ) → length r ≡ 64 → Filled h 0 r
 filled-none h r e = record { few = omega arith; size = e; same = λ i l. absurd (let z : ⊥ = omega arith in z) }

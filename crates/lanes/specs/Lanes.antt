@@ -1,16 +1,11 @@
 -- Eight messages side by side: word t of message l stands at place 8 * t + l. Assumes nothing.
 use mathlib.Core.Path.{_≡_}
 use mathlib.Core.List.{List, [], _∷_, _++_}
-use Prim.Native.Nat.{ℕ, zero, suc, _+_, _-_, _*_, _/_, _%_, _≤_, _<_}
+use Prim.Native.Nat.{ℕ, zero, suc, _+_, _-_, _*_, _/_, _≤_, _<_}
 use lib.ListN.{length, getD, replicate}
 use Rattle.fields.specs.Fields.{part, field}
 use Rattle.sha256.specs.Sha256.{_⊞_, σ0, σ1, round, bytes, sha256}
 use Rattle.sha256.specs.State.{ending}
-
--- the first n words of message l
-unfoldable pub column : ℕ → ℕ → List ℕ → List ℕ
-column zero l w = []
-column (suc n) l w = column n l w ++ (getD w (8 * n + l) 0 ∷ [])
 
 -- the word of the schedule sixteen rows after a place
 unfoldable pub wordOn : List ℕ → ℕ → ℕ
@@ -25,12 +20,6 @@ stateAt a e i =
 unfoldable pub lane : List ℕ → ℕ → List ℕ
 lane h l =
     getD h (l + 24) 0 ∷ getD h (l + 16) 0 ∷ getD h (l + 8) 0 ∷ getD h l 0 ∷ getD h (l + 56) 0 ∷ getD h (l + 48) 0 ∷ getD h (l + 40) 0 ∷ getD h (l + 32) 0 ∷ []
-
--- the first n places of r hold the hash value h, in every lane
-pub record Filled (h : List ℕ) (n : ℕ) (r : List ℕ) : Type 0 where
-  pub few : n ≤ 64
-  pub size : length r ≡ 64
-  pub same : (i : ℕ) → i < n → getD r i 0 ≡ getD h (4 * (i / 32) + (3 - i / 8 % 4)) 0
 
 -- w holds the words at the first n places; block l stands at `at + step * l`
 pub record Loaded (m : List ℕ) (at step n : ℕ) (w : List ℕ) : Type 0 where

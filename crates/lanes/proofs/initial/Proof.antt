@@ -1,7 +1,6 @@
 use borrow.Author.Needs.{needs}
 use Prim.Native.Nat.{_-_}
-use Rattle.lanes.specs.Lanes.{Filled}
-use Rattle.lanes.proofs.Messages.{filled-none, filled-more, initial-lanes}
+use Rattle.lanes.proofs.Messages.{Filled, filled-none, filled-more, initial-lanes}
 use Rattle.lanes.proofs.initial.Statement.{statement}
 use Rattle.lanes.proofs.initial.Tie as tie
 
