@@ -12,7 +12,8 @@ use lib.ListN.{length, getD, set, replicate, length-set, length-replicate, getD-
 use lib.Seq.{getD-set-same, getD-set-other}
 use Rattle.fields.specs.Fields.{part, field, written}
 use Rattle.fields.proofs.Numbers.{le-or-lt}
-use Rattle.fields.proofs.Places.{length-part, part-written, part-apart, length-written}
+use Rattle.fields.proofs.Places.{length-part, length-written}
+use Rattle.lanes.proofs.Messages.{strings-step}
 use Rattle.model.specs.Numbers.{Bytes}
 use Rattle.model.specs.Graph.{InEdge, temporal, dependency}
 use Rattle.model.specs.Digest.{incoming-string}
@@ -166,14 +167,9 @@ strings-more work slots count l b b′ m h s e =
       put =
           record {
             size = ap length e ∙ length-written b (118 * l) str fits ∙ s .put .size;
-            each = λ k q.
-                ⊎-elim
-                (λ (z : k ≡ l).
-                rw (z, e) (ap (part (written b (118 * l) str) (118 * l)) (sym long) ∙ part-written b (118 * l) str (omega arith)))
-                (λ (z : k < l).
-                rw e (part-apart b (118 * l) str (118 * k) (2 + 58 * in-count work (getD slots k 0)) fits (inl (omega (arith, in-count-few work (getD slots k 0)))))
-                ∙ s .put .each k z)
-                (last-or-before k l q);
+            each =
+                strings-step 118 (λ (k : ℕ). 2 + 58 * in-count work (getD slots k 0)) (λ (k : ℕ). incoming-string (in-links work (getD slots k 0))) l b b′
+                (λ k q. omega (arith, in-count-few work (getD slots k 0))) long (omega arith) e (s .put .each);
           };
     }
 

@@ -11,10 +11,10 @@ use lib.ListN.{length, getD, set, take, length-set}
 use lib.Seq.{getD-set-same, getD-set-other}
 use Rattle.fields.specs.Fields.{part, written}
 use Rattle.fields.proofs.Numbers.{le-or-lt}
-use Rattle.fields.proofs.Places.{length-part, length-written, part-written, part-apart}
+use Rattle.fields.proofs.Places.{length-part, length-written}
 use Rattle.sha256.specs.Sha256.{sha256}
 use Rattle.lanes.specs.Lanes.{digestsOf}
-use Rattle.lanes.proofs.Messages.{digest-at}
+use Rattle.lanes.proofs.Messages.{digest-at, strings-step}
 use Rattle.question.specs.declared.EntityKey.{EntityKey}
 use Rattle.model.specs.Numbers.{Bytes, H}
 use Rattle.model.specs.Accumulator.{Subtree as Known, group-string}
@@ -178,15 +178,9 @@ entity-strings-more w w′ r g l b b′ e v R h i K E p f S =
     f ∙ ap₂ (λ (y : ℕ) (k : Known). written b (57 * l) (group-string y k)) (p ∙ entity-same (columns 84 116 ∷ []) w w′ K digests-beside r (g + l)) (E .root) in
     record {
       size = ap length q ∙ length-written b (57 * l) x (omega (arith, S .size)) ∙ S .size;
-      strings =
-          below-more (λ (k : ℕ). part b′ (57 * k) 57 ≡ group-string (entity-at w′ r (g + k)) (entity-tree w′ r (g + k))) l
-          (λ (k : ℕ) (j : k < l).
-          ap (λ (y : Bytes). part y (57 * k) 57) q
-          ∙ part-apart b (57 * l) x (57 * k) 57 (omega (arith, S .size)) (inl (let z : 57 * k + 57 ≤ 57 * l = omega arith in z))
-          ∙ S .strings k j
-          ∙ sym (strings-same w w′ r (g + k) K))
-          (ap (λ (y : Bytes). part y (57 * l) 57) q ∙ ap (part (written b (57 * l) x) (57 * l)) (sym n) ∙ part-written b (57 * l) x (omega (arith, S .size))
-          ∙ sym (strings-same w w′ r (g + l) K));
+      strings = λ k j.
+          strings-step 57 (λ (k : ℕ). 57) (λ (k : ℕ). group-string (entity-at w r (g + k)) (entity-tree w r (g + k))) l b b′ (λ k j. omega arith) n (omega (arith, S .size)) q (S .strings) k j
+          ∙ sym (strings-same w w′ r (g + k) K);
     }
 
 -- l of c entities from the g-th on are done

@@ -3,7 +3,7 @@ use mathlib.Core.Path.{_≡_, refl, sym, ap, ap₂, _∙_}
 use mathlib.Core.Logic.{_⊎_, inl, inr, ⊎-elim}
 use mathlib.Core.List.{List, [], _∷_, _++_, append-assoc}
 use Prim.Native.Nat.{ℕ, zero, suc, _+_, _-_, _*_, _/_, _%_, _^_, _≤_, _<_}
-use native.Mathlib.Nat.{eq-or-lt-of-le}
+use native.Mathlib.Nat.{eq-or-lt-of-le, mul-add, mul-le-mul-left}
 use native.Mathlib.Omega.{arith}
 use borrow.Author.Count.{below-more}
 use lib.ListN.{length, getD, take, drop, set, replicate, length-append, length-drop, length-set, length-replicate, replicate-append-replicate, take-append-drop}
@@ -363,3 +363,18 @@ first-of-eight m step n c r h e = ap (take (32 * c)) e ∙ first-digests c 8 m s
 pub digest-at : (m : List ℕ) (step n c : ℕ) (r : List ℕ) → take (32 * c) r ≡ digestsOf c m step n → (l : ℕ) → l < c
     → part r (32 * l) 32 ≡ sha256 (part m (step * l) n)
 digest-at m step n c r e l h = sym (part-taken r (32 * c) (32 * l) 32 (omega arith)) ∙ ap (λ (x : List ℕ). part x (32 * l) 32) e ∙ one-digest c l m step n h
+
+-- ---- strings in lanes
+
+-- one string more: the lanes are `step` bytes apart, string k is f k, of w k bytes
+pub strings-step : (step : ℕ) (w : ℕ → ℕ) (f : ℕ → List ℕ) (l : ℕ) (b b′ : List ℕ) → ((k : ℕ) → k < l → w k ≤ step) → length (f l) ≡ w l → step * l + w l ≤ length b
+    → b′ ≡ written b (step * l) (f l) → ((k : ℕ) → k < l → part b (step * k) (w k) ≡ f k) → (k : ℕ) → k < l + 1 → part b′ (step * k) (w k) ≡ f k
+strings-step step w f l b b′ narrow size room e old =
+    below-more (λ (k : ℕ). part b′ (step * k) (w k) ≡ f k) l
+    (λ (k : ℕ) (j : k < l).
+    let m = mul-le-mul-left {m = k + 1} {n = l} step (let z : k + 1 ≤ l = omega arith in z) in
+    let n = mul-add step k 1 in
+    ap (λ (y : List ℕ). part y (step * k) (w k)) e
+    ∙ part-apart b (step * l) (f l) (step * k) (w k) (omega arith) (inl (let z : step * k + w k ≤ step * l = omega (arith, narrow k j) in z))
+    ∙ old k j)
+    (ap (λ (y : List ℕ). part y (step * l) (w l)) e ∙ ap (part (written b (step * l) (f l)) (step * l)) (sym size) ∙ part-written b (step * l) (f l) (omega arith))

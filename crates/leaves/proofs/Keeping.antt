@@ -8,10 +8,10 @@ use borrow.Author.Count.{below-more}
 use lib.Dec.{T, lit≤}
 use lib.ListN.{length, getD, take}
 use Rattle.fields.specs.Fields.{part, field, written}
-use Rattle.fields.proofs.Places.{length-part, length-written, part-written, part-apart, written-whole}
+use Rattle.fields.proofs.Places.{length-part, length-written, written-whole}
 use Rattle.sha256.specs.Sha256.{sha256}
 use Rattle.lanes.specs.Lanes.{digestsOf}
-use Rattle.lanes.proofs.Messages.{digest-at}
+use Rattle.lanes.proofs.Messages.{digest-at, strings-step}
 use Rattle.question.specs.declared.EntityKey.{EntityKey}
 use Rattle.question.specs.declared.TimeKey.{TimeKey}
 use Rattle.model.specs.Numbers.{Bytes, H}
@@ -82,12 +82,7 @@ strings-more work slots count l b b′ h i S e s =
     record {
       size = ap length e ∙ length-written b (77 * l) x (omega (arith, s .size)) ∙ s .size;
       strings =
-          below-more (λ (k : ℕ). part b′ (77 * k) 77 ≡ leaf-string (slot-leaf work (getD slots k 0))) l
-          (λ (k : ℕ) (j : k < l).
-          ap (λ (y : Bytes). part y (77 * k) 77) e
-          ∙ part-apart b (77 * l) x (77 * k) 77 (omega (arith, s .size)) (inl (let z : 77 * k + 77 ≤ 77 * l = omega arith in z))
-          ∙ s .strings k j)
-          (ap (λ (y : Bytes). part y (77 * l) 77) e ∙ ap (part (written b (77 * l) x) (77 * l)) (sym n) ∙ part-written b (77 * l) x (omega (arith, s .size)));
+          strings-step 77 (λ (k : ℕ). 77) (λ (k : ℕ). leaf-string (slot-leaf work (getD slots k 0))) l b b′ (λ k j. omega arith) n (omega (arith, s .size)) e (s .strings);
     }
 
 pub strings-all : (work : Bytes) (slots : List ℕ) (count l : ℕ) (b : Bytes) → count ≤ l → l ≤ count → Strings work slots l b → Strings work slots count b

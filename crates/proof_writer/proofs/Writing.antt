@@ -4,7 +4,7 @@ use mathlib.Core.List.{List, [], _∷_, _++_, append-nil, append-assoc}
 use Prim.Native.Nat.{ℕ, suc, _+_, _-_, _*_, _≤_, _<_}
 use native.Mathlib.Omega.{arith}
 use lib.ListN.{length, length-append}
-use Rattle.fields.specs.Fields.{part, field, written}
+use Rattle.fields.specs.Fields.{written}
 use Rattle.fields.proofs.Places.{length-part}
 use Rattle.model.specs.Numbers.{Bytes, joined}
 use Rattle.model.specs.Graph.{VersionNode}
@@ -13,12 +13,9 @@ use Rattle.model.specs.Question.{SpanQuestion, Question, entity-of, Opened}
 use Rattle.model.specs.Answer.{proof}
 use Rattle.model.proofs.Strings.{joined-append, joined-length, num, text, none}
 use Rattle.model.proofs.Open.{root-length, group-length}
-use Rattle.question.specs.declared.EntityKey.{EntityKey}
-use Rattle.question.specs.declared.TimeKey.{TimeKey}
 use Rattle.question.specs.declared.SpanQuestion.{SpanQuestion as Declared}
 use Rattle.question.specs.Directions.{spanOf}
 use Rattle.graph.proofs.Nodes.{map-length}
-use Rattle.accumulator.specs.Trees.{leafOf}
 use Rattle.accumulator.specs.Halves.{own, subtree-of, path-to}
 use Rattle.accumulator.proofs.Splitting.{subtree-of-tree}
 use Rattle.accumulator.proofs.Strings.{then}
@@ -160,13 +157,9 @@ module _ (work : Bytes) (n : ℕ) (ns : List VersionNode) (G : Graphed work n ns
 
 -- ---- L
 
-pub version-is : (work : Bytes) (n slot at : ℕ) (e : EntityKey) (t : TimeKey) (out out1 : Bytes) → slot < n → e .0 ≡ field 4 work (128 * slot + 72) → t .0 ≡ field 8 work (128 * slot + 64)
-    → out1 ≡ written out at (leaf-string (leafOf e t work (128 * slot) (128 * slot + 32))) → (ns : List VersionNode) → Graphed work n ns → out1 ≡ written out at (leaf-string (version-at ns slot .leaf))
-unfolding slot-leaf leafOf
-version-is work n slot at e t out out1 h p q g ns G =
-    g
-    ∙ (λ z. written out at (leaf-string (record { entity = p z; time = q z; incoming = part work (128 * slot) 32; outgoing = part work (128 * slot + 32) 32 })))
-    ∙ ap (λ (l : Leaf). written out at (leaf-string l)) (slot-leaf-is work ns slot (G .digested) (omega (arith, G .number)))
+pub version-is : (work : Bytes) (n slot at : ℕ) (out out1 : Bytes) → slot < n → out1 ≡ written out at (leaf-string (slot-leaf work slot)) → (ns : List VersionNode)
+    → Graphed work n ns → out1 ≡ written out at (leaf-string (version-at ns slot .leaf))
+version-is work n slot at out out1 h g ns G = g ∙ ap (λ (l : Leaf). written out at (leaf-string l)) (slot-leaf-is work ns slot (G .digested) (omega (arith, G .number)))
 
 leaf-77 : (l : Leaf) → length (l .incoming) ≡ 32 → length (l .outgoing) ≡ 32 → length (leaf-string l) ≡ 77
 unfolding leaf-string

@@ -1,8 +1,6 @@
 // The host's writing of an answer's proof: the strings that the walk through the two trees opens, over a node table.
 use accumulator::EntityTree;
 use accumulator::Header;
-use graph::OUTGOING_COLUMN;
-use graph::SLOT_WIDTH;
 use kept_trees::Row;
 use model::LETTER_N;
 use question::EntityKey;
@@ -241,17 +239,7 @@ fn put_version(work: &[u8], n: usize, slot: usize, out: &mut [u8], at: usize)
     requires { ⌜ HasGraph (now work) n × (slot < n) × (at + L-width ≤ length (now out)) ⌝ }
     ensures { λ _. ⌜ ((ns : List VersionNode) → Graphed (now (work .entry)) n ns → now (out .exit) ≡ written (now (out .entry)) at (leaf-string (version-at ns slot .leaf))) ⌝ }
 {
-    let entity = graph::entity_of(work, slot);
-    let time = graph::time_of(work, slot);
-    accumulator::put_leaf(
-        out,
-        at,
-        entity,
-        time,
-        work,
-        SLOT_WIDTH * slot,
-        SLOT_WIDTH * slot + OUTGOING_COLUMN,
-    );
+    leaves::put_string(out, at, work, slot)
 }
 
 // The strings that a span opens of a kept tree, in preorder from `at` on. Answers the place behind them.
