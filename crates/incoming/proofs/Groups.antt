@@ -2,7 +2,7 @@
 use mathlib.Core.Path.{_≡_, refl, sym, ap, _∙_, subst}
 use mathlib.Core.Logic.{_⊎_, inl, inr, ⊎-elim}
 use mathlib.Core.Bool.{true, false}
-use mathlib.Core.List.{List, List·Memᴰ, List·Memᴰ·append-cases, List·Memᴰ·eq-of-singleton, List·Memᴰ·not-nil}
+use mathlib.Core.List.{List, List·Memᴰ}
 use Prim.Native.Nat.{ℕ, _+_, _*_, _≤_, _<_}
 use native.Mathlib.Nat.{eq-or-lt-of-le}
 use native.Mathlib.Omega.{arith}
@@ -15,11 +15,11 @@ use Rattle.fields.proofs.Numbers.{le-or-lt}
 use Rattle.fields.proofs.Places.{length-part, length-written}
 use Rattle.lanes.proofs.Messages.{strings-step}
 use Rattle.model.specs.Numbers.{Bytes}
-use Rattle.model.specs.Graph.{InEdge, temporal, dependency}
+use Rattle.model.specs.Graph.{InEdge}
 use Rattle.model.specs.Digest.{incoming-string}
-use Rattle.graph.specs.Table.{absent, present, Ready}
+use Rattle.graph.specs.Table.{absent, Ready}
 use Rattle.graph.proofs.Slots.{kept-none, kept-then}
-use Rattle.graph.proofs.Nodes.{present-some, present-none, ready-starts}
+use Rattle.graph.proofs.Nodes.{each-start, ready-starts}
 use Rattle.graph.proofs.Strings.{in-edges-are}
 use Rattle.incoming.specs.Links.{in-links}
 use Rattle.incoming.specs.Groups.{in-count, Settled, Joins, Fits, entry, member, Taken, Gathered, Grown, Members, StringsPut, DigestsPut}
@@ -38,13 +38,6 @@ nothing-settled work first start e h = absurd (let y : ⊥ = omega arith in y)
 pub entry-settled : (work : Bytes) (first start c : ℕ) → c ≡ in-count work start → eqb c 0 ≡ true → Settled work first start
 entry-settled work first start c ec e = inr (sym ec ∙ eqb-true c 0 e)
 
-of-present : (p : ℕ) (x e : InEdge) → List·Memᴰ e (present p x) → (p < absent) × (e ≡ x)
-of-present p x e m =
-    ⊎-elim
-    (λ (z : absent ≤ p). absurd (List·Memᴰ·not-nil (subst (λ (l : List InEdge). List·Memᴰ e l) (present-none p x z) m)))
-    (λ (z : p < absent). (z, List·Memᴰ·eq-of-singleton (subst (λ (l : List InEdge). List·Memᴰ e l) (present-some p x z) m)))
-    (le-or-lt absent p)
-
 pub fits-entry : (work : Bytes) (n first edges i c : ℕ) → i < n → c ≡ in-count work i → c ≡ 0 → Fits work n first edges i
 fits-entry work n first edges i c h ec z = entry h (sym ec ∙ z)
 
@@ -57,13 +50,7 @@ fits-member work n first edges i c p s h ec ee ep es hp hs =
       here = h;
       alike = sym ec ∙ ee;
       starts = λ e m.
-          ⊎-elim
-          (λ (q : List·Memᴰ e (present p (temporal p))).
-          let o = of-present p (temporal p) e q in subst (λ (x : InEdge). Settled work first (x .start)) (sym (o .1)) (hp (o .0)))
-          (λ (q : List·Memᴰ e (present s (dependency k s))).
-          let o = of-present s (dependency k s) e q in subst (λ (x : InEdge). Settled work first (x .start)) (sym (o .1)) (hs (o .0)))
-          (List·Memᴰ·append-cases (present p (temporal p))
-          (subst (λ (l : List InEdge). List·Memᴰ e l) (in-edges-are work i p s k ep es refl) m));
+          each-start (Settled work first) p s k hp hs e (subst (λ (l : List InEdge). List·Memᴰ e l) (in-edges-are work i p s k ep es refl) m);
     })
 
 pub fits-here : (work : Bytes) (n first edges i : ℕ) → Fits work n first edges i → i < n

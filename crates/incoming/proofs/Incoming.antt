@@ -1,7 +1,7 @@
 -- Incoming digests: those of slots without in-edges first, then group by group in rising order. Assumes nothing.
-use mathlib.Core.Path.{_≡_, refl, sym, ap, ap₂, _∙_, subst}
+use mathlib.Core.Path.{_≡_, refl, sym, ap, _∙_, subst}
 use mathlib.Core.Logic.{_⊎_, inl, inr, ⊎-elim}
-use mathlib.Core.List.{List, [], _∷_, map, List·Memᴰ, List·Memᴰ·head, List·Memᴰ·tail, List·Memᴰ·not-nil}
+use mathlib.Core.List.{List, [], _∷_, map, List·Memᴰ, List·Memᴰ·not-nil}
 use Prim.Native.Nat.{ℕ, _+_, _*_, _≤_, _<_}
 use native.Mathlib.Nat.{add-zero, eq-or-lt-of-le}
 use native.Mathlib.Omega.{arith}
@@ -9,7 +9,6 @@ use lib.Dec.{lit≤}
 use lib.ListN.{length, getD, take}
 use Rattle.fields.specs.Fields.{encode, part, written}
 use Rattle.fields.proofs.Numbers.{le-or-lt}
-use Rattle.fields.proofs.Places.{part-all}
 use Rattle.sha256.specs.Sha256.{sha256}
 use Rattle.lanes.specs.Lanes.{digestsOf}
 use Rattle.lanes.proofs.Messages.{digest-at}
@@ -18,15 +17,12 @@ use Rattle.model.specs.Graph.{InEdge, VersionNode, node-at}
 use Rattle.model.specs.Digest.{Link, link, links-string, incoming-string, incoming-links, incoming-digests, incoming-string-of}
 use Rattle.model.proofs.Strings.{H-length}
 use Rattle.model.proofs.Digests.{incoming-right}
+use Rattle.model.proofs.Growth.{map-same}
 use Rattle.graph.specs.Table.{node-in, nodes-in, Ready, Columns, columns, Kept, IncomingDone}
-use Rattle.graph.proofs.Slots.{kept-none, kept-then, kept-written, slot-here, slot-apart}
+use Rattle.graph.proofs.Slots.{digest-copied, kept-none, kept-then, kept-written, slot-here, slot-apart}
 use Rattle.graph.proofs.Nodes.{length-nodes, node-at-nodes, node-kept, nodes-kept, ready-starts}
-use Rattle.incoming.specs.Links.{in-link, in-links}
+use Rattle.incoming.specs.Links.{in-link, in-links, incoming-of}
 use Rattle.incoming.specs.Groups.{in-count, no-in-edges, Entries, EntriesDone, Skipped, Right, Turn, InTurn, Taken, Gathered, StringsPut, DigestsPut}
-
-map-same : {A B : Type 0} (f g : A → B) (l : List A) → ((x : A) → List·Memᴰ x l → f x ≡ g x) → map f l ≡ map g l
-map-same f g [] h = refl
-map-same {B = B} f g (x ∷ l) h = ap₂ {C = List B} (λ y m. y ∷ m) (h x (List·Memᴰ·head refl)) (map-same f g l (λ y m. h y (List·Memᴰ·tail m)))
 
 pub last-or-before : (j i : ℕ) → j < i + 1 → (j ≡ i) ⊎ (j < i)
 last-or-before j i h = eq-or-lt-of-le (let y : j ≤ i = omega arith in y)
@@ -49,6 +45,10 @@ module _ (work : Bytes) (i : ℕ) (d : Bytes) (e : length d ≡ 32) (room : 128 
       subst (λ (a : ℕ). part (written work (128 * i) d) a 32 ≡ part work a 32) (add-zero (128 * j))
       (subst (λ (a : ℕ). part (written work a d) (128 * j + 0) 32 ≡ part work (128 * j + 0) 32) (add-zero (128 * i))
       (slot-apart work i 0 d 32 e room (lit≤ tt) j 0 32 z (lit≤ tt)))
+
+pub incoming-of-length : (work : Bytes) (i : ℕ) → length (incoming-of work i) ≡ 32
+unfolding incoming-of
+incoming-of-length work i = H-length (incoming-string (in-links work i))
 
 module _ (work work′ : Bytes) (kept : Kept incoming-column work work′) where
   count-kept : (j : ℕ) → in-count work′ j ≡ in-count work j
@@ -85,8 +85,8 @@ no-edges work j z = none (node-in work j .in-edges) z
     none [] e = refl
     none (x ∷ es) e = absurd (let y : ⊥ = omega arith in y)
 
-no-in-edges-of : (work : Bytes) (j : ℕ) → in-count work j ≡ 0 → H (incoming-string (in-links work j)) ≡ no-in-edges
-unfolding in-links no-in-edges
+no-in-edges-of : (work : Bytes) (j : ℕ) → in-count work j ≡ 0 → incoming-of work j ≡ no-in-edges
+unfolding incoming-of in-links no-in-edges
 no-in-edges-of work j z = ap (λ (es : List InEdge). H (incoming-string (map (in-link work j) es))) (no-edges work j z)
 
 module _ (work : Bytes) (i c : ℕ) (ec : c ≡ in-count work i) (before : Entries work i) where
@@ -105,8 +105,7 @@ module _ (work : Bytes) (i c : ℕ) (ec : c ≡ in-count work i) (before : Entri
   pub entry-put : (work′ d : Bytes) → 128 * i + 128 ≤ length work → d ≡ no-in-edges → work′ ≡ written work (128 * i) (part d 0 32)
       → EntriesDone work work′ (i + 1)
   entry-put work′ d room ed ew =
-      let e : work′ ≡ written work (128 * i) no-in-edges =
-      ew ∙ ap (written work (128 * i)) (ap (λ (x : Bytes). part x 0 32) ed ∙ part-all no-in-edges 32 no-in-edges-length) in
+      let e : work′ ≡ written work (128 * i) no-in-edges = digest-copied work work′ d no-in-edges (128 * i) no-in-edges-length ed ew in
       let kept : Kept incoming-column work work′ = rw e (put-kept work i no-in-edges no-in-edges-length room) in
       record {
         kept = kept;
@@ -171,15 +170,15 @@ module _ (work : Bytes) (n : ℕ) (ready : Ready work n) (j : ℕ) (h : j < n)
       λ k. link e (the-node (e .start) b k) (the-node j h k) (done e m k))
       ∙ ap (λ (x : VersionNode). map (λ (e : InEdge). link e (node-at ns (e .start)) (node-at ns j) (getD ds (e .start) [])) (x .in-edges)) (the-node j h)
 
-  right-digest : H (incoming-string (in-links work j)) ≡ getD (incoming-digests (nodes-in work n)) j []
-  unfolding incoming-string-of
+  pub right-digest : incoming-of work j ≡ getD (incoming-digests (nodes-in work n)) j []
+  unfolding incoming-of incoming-string-of
   right-digest =
       let ns = nodes-in work n in
       ap (λ (ls : List Link). H (incoming-string ls)) in-links-are ∙ sym (incoming-right ns (ready .ordered .down) j (omega (arith, length-nodes work n)))
 
-hashed : (m : Bytes) → sha256 m ≡ H m
-unfolding H
-hashed m = refl
+hashed : (work : Bytes) (j : ℕ) → sha256 (incoming-string (in-links work j)) ≡ incoming-of work j
+unfolding incoming-of H
+hashed work j = refl
 
 right-kept : (work work′ : Bytes) (n j : ℕ) → Kept incoming-column work work′ → part work′ (128 * j) 32 ≡ getD (incoming-digests (nodes-in work n)) j [] → Right work′ n j
 unfolding Right
@@ -222,7 +221,7 @@ group-done work work′ strings ds n first slots count edges end turn g s e p = 
         let m = g .each l h in
         digest-at strings 118 (2 + 58 * edges) count ds e l h
         ∙ ap sha256 (ap (λ (x : ℕ). part strings (118 * l) (2 + 58 * x)) (sym (m .alike)) ∙ s .each l h)
-        ∙ hashed (incoming-string (in-links work (getD slots l 0)))
+        ∙ hashed work (getD slots l 0)
         ∙ right-digest work n (turn .ready) (getD slots l 0) (m .here)
         (λ x q. turn .right (x .start) (omega (arith, m .here, ready-starts work n (getD slots l 0) (turn .ready) (m .here) .before x q)) (m .starts x q))
 

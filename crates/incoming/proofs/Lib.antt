@@ -1,4 +1,4 @@
--- What the proofs of the functions cite.
+-- Laws of incoming digests, and what the proofs of the functions cite.
 mod Strings
-mod Incoming
+pub mod Incoming
 mod Groups

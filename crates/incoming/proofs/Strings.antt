@@ -3,13 +3,15 @@ use mathlib.Core.Path.{_≡_, refl, sym, ap, ap₂, _∙_}
 use mathlib.Core.Logic.{⊎-elim}
 use mathlib.Core.List.{List, [], _∷_, _++_, map, append-assoc, append-nil, map-append, List·Memᴰ, List·Memᴰ·head, List·Memᴰ·tail, Memᴰ·append-left, Memᴰ·append-right}
 use Prim.Native.Nat.{ℕ, suc, _+_, _*_, _^_, _≤_, _<_}
+use native.Mathlib.Nat.{zero-add}
 use native.Mathlib.Omega.{arith}
 use lib.Dec.{lit≤}
-use lib.ListN.{length, length-append}
+use lib.ListN.{length, take, length-append}
 use Rattle.fields.specs.Fields.{encode, part, field, written}
 use Rattle.fields.proofs.Numbers.{length-encode, le-or-lt}
-use Rattle.fields.proofs.Places.{length-part, written-none}
-use Rattle.model.specs.Numbers.{Bytes, joined}
+use Rattle.fields.proofs.Places.{length-part, take-written, written-none}
+use Rattle.sha256.specs.Sha256.{sha256}
+use Rattle.model.specs.Numbers.{Bytes, H, joined}
 use Rattle.model.specs.Graph.{InEdge, temporal, dependency}
 use Rattle.model.specs.Digest.{Link, link, edge-part, links-string, incoming-string}
 use Rattle.model.proofs.Strings.{joined-append}
@@ -19,7 +21,7 @@ use Rattle.graph.specs.Links.{an-edge, Starts}
 use Rattle.graph.proofs.Slots.{wrote, and-behind}
 use Rattle.graph.proofs.Nodes.{present-some, present-none, map-length}
 use Rattle.graph.proofs.Strings.{encode-byte, start-there, in-edges-are}
-use Rattle.incoming.specs.Links.{in-link, in-links, in-parts}
+use Rattle.incoming.specs.Links.{in-link, in-links, in-parts, incoming-of}
 use Rattle.incoming.specs.Groups.{in-count}
 
 -- ---- the parts of links behind one another
@@ -135,3 +137,14 @@ module _ (work : Bytes) (i : ℕ) (h : Starts work i) where
       (omega (arith, edge-few p (an-edge 0 0 p), edge-few s (an-edge 1 k s))) e1 e2 e3
       ∙ ap (written b at)
       (ap₂ (λ (x y : Bytes). 0x49 ∷ (x ++ y)) number (sym (in-parts-more work i ps ss) ∙ ap (in-parts work i) (sym edges)) ∙ sym (string-text work i))
+
+  -- the string at the beginning of b, and its hash
+  pub digest-is : (b b1 d : Bytes) (c : ℕ) → c ≡ in-count work i → b1 ≡ written b 0 (incoming-string (in-links work i))
+      → d ≡ sha256 (take (2 + 58 * c) b1) → d ≡ incoming-of work i
+  unfolding incoming-of H
+  digest-is b b1 d c ec e1 ed =
+      let x = incoming-string (in-links work i) in
+      ed ∙ ap sha256
+      (ap₂ (λ (k : ℕ) (y : Bytes). take (2 + 58 * k) y) ec e1
+      ∙ ap (λ (k : ℕ). take k (written b 0 x)) (sym (zero-add (2 + 58 * in-count work i)))
+      ∙ take-written b 0 x (2 + 58 * in-count work i) (omega arith) string-length)

@@ -11,6 +11,7 @@ pub mod Forest
 pub mod Peaks
 -- path digests, and records against true versions
 pub mod Digests
+pub mod Growth
 pub mod Match
 -- paths, the search, and the subgraph on its versions
 pub mod Paths
@@ -54,6 +55,10 @@ pub mod CallLaws
 pub mod Asking
 pub mod RowNumbers
 pub mod Decimal
+-- the running recorder
+pub mod Recording
+pub mod Reaching
+pub mod EntityLeaves
 -- Log K
 pub mod LogK
 pub mod Anchors

@@ -15,6 +15,7 @@ use Rattle.model.specs.Graph.{VersionNode}
 use Rattle.model.specs.Accumulator.{Subtree, Layout, Leaf, branch-width}
 use Rattle.model.specs.Question.{Way, Part, version-only, trace-of, Question, one, all, part-of, question, SearchEnd, Descent, within}
 use Rattle.model.specs.CheckRows.{take-string, CheckedProof, opening, subtree-in, chosen, check-tree, check-versions, none-due, check-leaf, check-all, path-limit, check-span, check-sought, check-entities, check-proof, read-record, CheckedTrace, read-records, enough, read-trace, trace-rows, end-here, with-trace, check-end, run-under, run, room, run-into}
+use Rattle.model.specs.Recorder.{start-rows, offer, recorder-commitment}
 use Rattle.model.specs.Calls.{hash-call, log-call, listing-call, commitment-bytes, commitment-call, answer-bytes, answer-call, verdict-of, check-call, fitting, writing}
 use Rattle.model.proofs.Outcomes.{and-T}
 
@@ -51,9 +52,9 @@ either false x y h g = g
 
 -- ---- the log
 
-commands : (x : Bytes) (pos : ℕ) → Numbered (parse x pos)
+pub parse-numbered : (x : Bytes) (pos : ℕ) → Numbered (parse x pos)
 unfolding parse
-commands x pos =
+parse-numbered x pos =
     either (eqb (getD x 0 0) BIRTH) _ _ (after _ _ (row _ 4 pos tt) (λ _. given _))
     (either (eqb (getD x 0 0) FLOW) _ _ (after _ _ (row _ 4 pos tt) (λ _. given _)) (turned 3 pos tt))
 
@@ -65,7 +66,7 @@ ends rs (flow s d k t) pos = after _ _ (row _ 7 pos tt) (λ _. after _ _ (row _ 
 one-record : (limit : ℕ) (rs : List Record) (pos : ℕ) (x : Bytes) → Numbered (next-record limit rs pos x)
 unfolding next-record
 one-record limit rs pos x =
-    after _ _ (row _ 2 pos tt) (λ _. after _ _ (commands x pos) (λ r. after _ _ (row _ 5 pos tt) (λ _. after _ _ (ends rs r pos) (λ _. given r))))
+    after _ _ (row _ 2 pos tt) (λ _. after _ _ (parse-numbered x pos) (λ r. after _ _ (row _ 5 pos tt) (λ _. after _ _ (ends rs r pos) (λ _. given r))))
 
 each : (limit f : ℕ) (rs : List Record) (pos : ℕ) (x : Bytes) → Numbered (records-by (next-record limit) f rs pos x)
 unfolding records-by
@@ -210,3 +211,19 @@ answer-numbered direction s t t2 log out work =
 pub check-numbered : (direction : ℕ) (s : EntityKey) (t t2 : TimeKey) (c x out work : Bytes) → Numbered (check-call direction s t t2 c x out work .result)
 unfolding check-call verdict-of
 check-numbered direction s t t2 c x out work = after _ _ (run-into-numbered direction s t t2 c x (length work) (length out)) (λ a. given (a .verdict))
+
+-- ---- the recorder
+
+pub start-numbered : (n : ℕ) → Numbered (start-rows n)
+unfolding start-rows
+start-numbered n = row _ 26 0 tt
+
+pub offer-numbered : (n : ℕ) (rs : List Record) (x : Bytes) → Numbered (offer n rs x)
+unfolding offer
+offer-numbered n rs x =
+    after _ _ (row _ 4 0 tt)
+    (λ _. after _ _ (one-record record-limit rs 0 x) (λ r. after _ _ (row _ 18 _ tt) (λ _. after _ _ (row _ 26 0 tt) (λ _. given r))))
+
+pub recorder-commitment-numbered : (rs : List Record) (out : Bytes) → Numbered (recorder-commitment rs out)
+unfolding recorder-commitment fitting
+recorder-commitment-numbered rs out = after _ _ (row _ 1 0 tt) (λ _. after _ _ (row _ 13 0 tt) (λ _. given _))

@@ -14,6 +14,8 @@ pub mod LogRows
 pub mod CheckRows
 pub mod Calls
 pub mod Listing
+pub mod Recorder
+pub mod RecorderMemory
 pub mod WellFormed
 pub mod Exact
 pub mod FormerRows

@@ -14,14 +14,14 @@ use Rattle.model.specs.Accumulator.{tip, subtree, tree, VersionLeaf, versions-l
 use Rattle.model.specs.Question.{VersionQuestion, SpanQuestion, Question, one, all, entity-of, no-entity, SearchEnd, by-entity, by-time, Opened, stop, after, open-all, within, open-span, open-versions, open-sought, open-entities}
 use Rattle.model.proofs.Lists.{map-at}
 use Rattle.graph.specs.Table.{nodes-in, Columns, columns, Kept}
-use Rattle.graph.proofs.Slots.{kept-then}
+use Rattle.graph.proofs.Slots.{kept-then, kept-wider}
 use Rattle.accumulator.specs.Halves.{own}
 use Rattle.trees.specs.Tables.{Graphed, HasGraph, groups, versions, version-at}
 use Rattle.trees.proofs.Keeping.{graphed-kept}
 use Rattle.ranks.specs.declared.Ranks.{Ranks}
 use Rattle.ranks.specs.Ranked.{slot-at, first-in, count-in, slots-in, RankedAs}
 use Rattle.ranks.proofs.Reading.{some-versions, count-inside}
-use Rattle.ranks.proofs.Slots.{kept-wider, slots-length}
+use Rattle.ranks.proofs.Slots.{slots-length}
 use Rattle.kept_trees.proofs.Rows.{digests-beside, ranked-as-same}
 use Rattle.kept_trees.specs.Leaves.{stretch, versions-row}
 use Rattle.kept_trees.specs.Kept.{KeptTree, TreesKept}

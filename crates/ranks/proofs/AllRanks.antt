@@ -11,14 +11,14 @@ use Rattle.model.specs.Numbers.{Bytes}
 use Rattle.model.specs.Graph.{VersionNode, node-at}
 use Rattle.model.specs.Accumulator.{version-leaves, is-entry, entities}
 use Rattle.graph.specs.Table.{node-in, columns, Kept}
-use Rattle.graph.proofs.Slots.{kept-none, kept-then}
+use Rattle.graph.proofs.Slots.{kept-none, kept-then, kept-wider}
 use Rattle.graph.proofs.Nodes.{node-kept}
 use Rattle.trees.specs.Tables.{Graphed, versions, NextEntry}
 use Rattle.trees.proofs.Keeping.{graphed-kept}
 use Rattle.trees.proofs.EntityWalk.{entry-is, some-version}
 use Rattle.trees.proofs.EntityList.{eq-T, next-same, entities-entered, entities-short}
 use Rattle.ranks.specs.Ranked.{RankedAs, Unranked, VersionsRanked}
-use Rattle.ranks.proofs.Slots.{kept-wider, put-kept}
+use Rattle.ranks.proofs.Slots.{put-kept}
 use Rattle.ranks.proofs.Totals.{total, total-append, total-entities}
 use Rattle.ranks.proofs.Standing.{Standing, standing-none, standing-more, standing-all}
 

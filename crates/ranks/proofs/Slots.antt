@@ -1,37 +1,17 @@
 -- Numbers put into slots, and the slots of ranked versions. Assumes nothing.
 use mathlib.Core.Path.{_≡_, refl, sym, ap, ap₂, _∙_, subst}
-use mathlib.Core.Logic.{⊎-elim}
-use mathlib.Core.Bool.{_||_}
 use mathlib.Core.List.{List, [], _∷_, _++_}
 use Prim.Native.Nat.{ℕ, zero, suc, _+_, _*_, _≤_, _<_}
 use native.Mathlib.Nat.{add-zero, add-suc, suc-add}
 use native.Mathlib.Omega.{arith}
-use lib.Dec.{T, leb, leb→le, le→leb}
 use lib.ListN.{length}
 use Rattle.fields.specs.Fields.{encode, field, written}
 use Rattle.fields.proofs.Numbers.{length-encode}
 use Rattle.fields.proofs.Places.{field-written}
 use Rattle.model.specs.Numbers.{Bytes}
-use Rattle.model.proofs.Outcomes.{and-T, T-and, or-T, T-or-left, T-or-right}
 use Rattle.graph.specs.Table.{columns, Kept}
 use Rattle.graph.proofs.Slots.{kept-written, field-apart-slot}
 use Rattle.ranks.specs.Ranked.{slot-at, slots-in}
-
--- wider columns
-pub kept-wider : (a b c d : ℕ) → c ≤ a → b ≤ d → (work work′ : Bytes) → Kept (columns a b ∷ []) work work′ → Kept (columns c d ∷ []) work work′
-kept-wider a b c d h g work work′ K =
-    record {
-      size = K .size;
-      same = λ j k w t.
-          let q = and-T (leb (k + w) c || leb d k) (leb (k + w) 128) t in
-          K .same j k w
-          (T-and (leb (k + w) a || leb b k) (leb (k + w) 128)
-          (⊎-elim
-          (λ (u : T (leb (k + w) c)). let v = leb→le (k + w) c u in T-or-left (leb (k + w) a) (leb b k) (le→leb (k + w) a (omega arith)))
-          (λ (u : T (leb d k)). let v = leb→le d k u in T-or-right (leb (k + w) a) (leb b k) (le→leb b k (omega arith)))
-          (or-T (leb (k + w) c) (leb d k) (q .0)))
-          (q .1));
-    }
 
 -- a number that was put into a column of slot i
 module _ (work : Bytes) (column i x : ℕ) (room : 128 * i + 128 ≤ length work) (fits : column + 2 ≤ 128) (small : x ≤ 65535) (work′ : Bytes) (is : work′ ≡ written work (128 * i + column) (encode 2 x)) where

@@ -1,6 +1,6 @@
 //! Reference implementation of verifiable causality answers over an event log:
-//! hash, log reader, graph, path digests, accumulator, answer writer, check
-//! and listing.
+//! hash, log reader, graph, path digests, accumulator, answer writer, check,
+//! listing and running recorder.
 //!
 //! Every call returns `number` 0 when it is not turned away, else the number
 //! and position of a row of the table in section "What turns a call away".
@@ -21,9 +21,13 @@ pub mod host;
 pub mod lanes;
 pub mod listing;
 pub mod log;
+pub mod offers;
+pub mod places;
 mod question;
 pub mod random;
+pub mod recorder;
 mod refusal;
+pub mod running;
 pub mod sample;
 pub mod sha256;
 pub mod trace;
@@ -204,6 +208,21 @@ pub fn records(
     }
 }
 
+/// A fresh recorder in the memory. Row 26, below 512 bytes.
+pub fn recorder_start(memory: &mut [u8]) -> Outcome {
+    outcome(running::start(memory))
+}
+
+/// A record for the recorder in the memory. 4 if it is empty, 2 to 9, 18, 26.
+pub fn recorder_take(record: &[u8], memory: &mut [u8]) -> Outcome {
+    outcome(running::take(&mut H, record, memory))
+}
+
+/// The commitment of the records that the recorder took, 32 bytes. 1, 13.
+pub fn recorder_commitment(memory: &[u8], out: &mut [u8]) -> Outcome {
+    outcome(running::commitment(&mut H, memory).and_then(|commitment| write(&commitment, out)))
+}
+
 /// Row 13: output too short for the result; else the result is the output's first bytes.
 fn write(result: &[u8], out: &mut [u8]) -> Result<usize, Refusal> {
     if out.len() < result.len() {
@@ -213,7 +232,7 @@ fn write(result: &[u8], out: &mut [u8]) -> Result<usize, Refusal> {
     Ok(result.len())
 }
 
-fn outcome(result: Result<usize, Refusal>) -> Outcome {
+fn outcome<T>(result: Result<T, Refusal>) -> Outcome {
     match result {
         Ok(_) => Outcome::default(),
         Err(Refusal { number, position }) => Outcome { number, position },

@@ -1,10 +1,11 @@
-//! What the documents say of the repository is so: what they name is there, every wrong version is named, what they quote stands word for word
+//! What the documents say of the repository is so: what they name is there, every wrong version is named and can be made, what they quote stands word for word
 //! in the document that it is quoted from, their links lead somewhere, and their tables are whole.
 
 mod markdown;
 mod names;
 mod quotations;
 mod repository;
+mod wrong_versions;
 
 use std::path::Path;
 
@@ -12,6 +13,7 @@ use markdown::{broken_tables, links, passages, Passage};
 use names::{names, Checked};
 use quotations::{plain, quotations, stands_in, unquoted_sentences};
 use repository::Repository;
+use wrong_versions::{faults, wrong_versions, WrongVersion};
 
 const PROMISES: &str = "docs/PROMISES.md";
 const SCOPE: &str = "docs/01-scope.md";
@@ -21,8 +23,10 @@ const REQUESTS: &str = "docs/02-change-requests.md";
 const WRONG_VERSIONS: &str = "Wrong versions that are refused";
 
 /// What stands at the root and is no folder of a build.
-const PARTS: [&str; 13] =
-    ["README.md", "LICENSE", "test", "bozhtagul", "release", "crates.txt", "crates", "include", "rust", "docs", "bench", "fuzz", "practical"];
+const PARTS: [&str; 14] = [
+    "README.md", "LICENSE", "test", "wrong-versions", "bozhtagul", "release", "crates.txt", "crates", "include", "rust", "docs", "bench", "fuzz",
+    "practical",
+];
 
 /// Code in the promises that names nothing: forms of names, and words of the language.
 const NO_NAMES: [&str; 10] = [
@@ -59,17 +63,32 @@ fn the_promises_name_what_is_there() {
     }
 }
 
+/// The rows of the promises' table of wrong versions: what they are of, and their names.
+fn wrong_version_rows(repository: &Repository) -> Vec<(String, String)> {
+    let rows = passages(repository.text(PROMISES)).into_iter().filter(|passage| passage.heading == WRONG_VERSIONS);
+    rows.filter_map(|row| <[String; 2]>::try_from(row.cells).ok().map(|[what, names]| (what, names))).collect()
+}
+
+fn is_in_row(wrong: &WrongVersion, (what, names): &(String, String)) -> bool {
+    let is_of = what.contains(&format!("`{}::", wrong.owner)) || what.contains(&format!("`{}`", wrong.owner));
+    is_of && names.contains(&format!("`{}`", wrong.name))
+}
+
 /// The wrong versions of which no row of the promises' table has both the name and the crate.
 fn unnamed(repository: &Repository) -> Vec<&str> {
-    let passages = passages(repository.text(PROMISES));
-    let rows = || passages.iter().filter(|passage| passage.heading == WRONG_VERSIONS && passage.cells.len() == 2);
-    let is_named = |path: &str| {
-        let parts: Vec<&str> = path.split('/').collect();
-        let (owner, name) = (parts[1], format!("`{}`", parts[3].trim_end_matches(".edit")));
-        let is_of = |what: &str| what.contains(&format!("`{owner}::")) || what.contains(&format!("`{owner}`"));
-        rows().any(|row| is_of(&row.cells[0]) && row.cells[1].contains(&name))
+    let rows = wrong_version_rows(repository);
+    let unnamed = wrong_versions(repository).into_iter().filter(|wrong| !rows.iter().any(|row| is_in_row(wrong, row)));
+    unnamed.map(|wrong| wrong.path).collect()
+}
+
+/// The rows of which the gate tries fewer than two wrong versions, and not all.
+fn untried(repository: &Repository) -> Vec<String> {
+    let all = wrong_versions(repository);
+    let too_few = |row: &(String, String)| {
+        let of_row = || all.iter().filter(|wrong| is_in_row(wrong, row));
+        of_row().filter(|wrong| wrong.in_the_gate).count() < of_row().count().min(2)
     };
-    repository.below("crates").filter(|path| path.ends_with(".edit") && !is_named(path)).collect()
+    wrong_version_rows(repository).into_iter().filter(too_few).map(|(what, _)| what).collect()
 }
 
 #[test]
@@ -80,16 +99,61 @@ fn the_promises_name_every_wrong_version() {
 }
 
 #[test]
+fn the_gate_tries_two_wrong_versions_of_each_promise() {
+    let untried = untried(&repository());
+    assert!(untried.is_empty(), "{PROMISES}:\n{}", untried.join("\n"));
+}
+
+#[test]
+fn every_wrong_version_can_be_made() {
+    let repository = repository();
+    let all = wrong_versions(&repository);
+    let faults: Vec<String> = all.iter().flat_map(|wrong| faults(&repository, wrong)).collect();
+    assert!(faults.is_empty(), "{}", faults.join("\n"));
+    assert!(all.len() > 300, "{} wrong versions", all.len());
+}
+
+/// A repository whose promises have one row of wrong versions.
+fn with_row(row: &str, files: &[(&str, &str)]) -> Repository {
+    let promises = format!("## {WRONG_VERSIONS}\n\n| what | wrong versions |\n|---|---|\n{row}\n");
+    Repository::of(&[&[(PROMISES, promises.as_str())], files].concat())
+}
+
+#[test]
 fn an_unnamed_wrong_version_is_reported() {
-    let unnamed_by = |row: &str| {
-        let promises = format!("## {WRONG_VERSIONS}\n\n| what | wrong versions |\n|---|---|\n{row}\n");
-        unnamed(&Repository::of(&[(PROMISES, &promises), ("crates/log/must-fail/late.edit", "")])).len()
-    };
-    for named in ["| `log::read` | `late` |", "| definitions of `log` | `early`, `late` |"] {
-        assert_eq!(unnamed_by(named), 0, "{named}");
+    for path in ["crates/log/must-fail/late.edit", "crates/log/must-fail/more/late.edit"] {
+        let unnamed_by = |row: &str| unnamed(&with_row(row, &[(path, "")])).len();
+        for named in ["| `log::read` | `late` |", "| definitions of `log` | `early`, `late` |"] {
+            assert_eq!(unnamed_by(named), 0, "{named}");
+        }
+        for row in ["| `log::read` | `later` |", "| `model` | `late` |", "| `late` | `log` |", ""] {
+            assert_eq!(unnamed_by(row), 1, "{row}");
+        }
     }
-    for row in ["| `log::read` | `later` |", "| `model` | `late` |", "| `late` | `log` |", ""] {
-        assert_eq!(unnamed_by(row), 1, "{row}");
+}
+
+#[test]
+fn a_promise_with_too_few_wrong_versions_in_the_gate_is_reported() {
+    let untried_of = |files: &[(&str, &str)]| untried(&with_row("| `log::read` | `early`, `late`, `never` |", files)).len();
+    let (early, late) = (("crates/log/must-fail/early.edit", ""), ("crates/log/must-fail/late.edit", ""));
+    let never = ("crates/log/must-fail/more/never.edit", "");
+    assert_eq!(untried_of(&[early, late, never]), 0);
+    assert_eq!(untried_of(&[early]), 0);
+    assert_eq!(untried_of(&[early, never]), 1);
+    assert_eq!(untried_of(&[never]), 1);
+}
+
+#[test]
+fn a_wrong_version_that_cannot_be_made_is_reported() {
+    let faults_of = |edit: &str| {
+        let files = [("crates/log/must-fail/late.edit", edit), ("crates/log/src/lib.rt", "a < b\nc < d\nc < d\n")];
+        let repository = Repository::of(&files);
+        wrong_versions(&repository).iter().flat_map(|wrong| faults(&repository, wrong)).count()
+    };
+    assert_eq!(faults_of("file: src/lib.rt\nold: a < b\nnew: a > b\n"), 0);
+    assert_eq!(faults_of("file: src/lib.rt\nold: a < b\nnew: a > b\nold: a > b\nnew:\n"), 0);
+    for edit in ["", "file: src/lib.rt\nold: c < d\nnew: d\n", "file: src/lib.rt\nold: e\nnew: d\n", "file: src/main.rt\nold: a < b\nnew: d\n", "file: src/lib.rt\nnew: d\n"] {
+        assert_eq!(faults_of(edit), 1, "{edit}");
     }
 }
 

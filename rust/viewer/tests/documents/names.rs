@@ -239,7 +239,8 @@ impl Reader<'_> {
             Place::Module(files) => files.iter().any(|file| repository.declares(file, name)),
             Place::Crate(owner) => {
                 let declared = ["src", "specs", "proofs"].iter().any(|part| repository.declares(&format!("crates/{owner}/{part}"), name));
-                declared || repository.find(&format!("crates/{owner}/must-fail/{name}.edit")).is_some()
+                let wrong = ["must-fail", "must-fail/more"].iter().any(|folder| repository.is_there(&format!("crates/{owner}/{folder}/{name}.edit")));
+                declared || wrong
             }
             Place::Path(path) => {
                 let folder = path.rsplit_once('/').map_or("", |(folder, _)| folder);

@@ -27,7 +27,7 @@ impl Repository {
         self.files.keys().map(String::as_str).filter(move |file| inside(file))
     }
 
-    fn is_there(&self, path: &str) -> bool {
+    pub fn is_there(&self, path: &str) -> bool {
         self.below(path).next().is_some()
     }
 

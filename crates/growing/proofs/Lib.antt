@@ -1,0 +1,3 @@
+-- What the proofs of the functions cite.
+mod Adding
+mod Renewing
