@@ -6,9 +6,10 @@
  * any bytes and any numbers, ends, takes no memory from the heap, and keeps nothing.
  *
  * A result's number is that of the row of document 01's table that turned the call away, or of a request's, with the row's byte position, or 0.
- * Fields that do not apply are 0. After a refusal the output is as it was. The work area is all zero after every call.
+ * Fields that do not apply are 0. After a refusal the output is as it was, and so is the memory of a recorder. The work area is all zero after every
+ * call.
  *
- * Measured, the calls on a log take at most 264 KiB of stack, the others 5 KiB. */
+ * Measured, the calls on a log take at most 276 KiB of stack, a recorder's take 80 KiB, the others 14 KiB. */
 
 #ifndef BOZHTAGUL_H
 #define BOZHTAGUL_H
@@ -39,6 +40,10 @@
 #define BOZHTAGUL_WORK 128
 #define BOZHTAGUL_VERSION 12
 #define BOZHTAGUL_MOST_RECORDS 65535
+
+/* Bytes of memory for a recorder of so many records, and the smallest part of it: one goes before the first record. */
+#define BOZHTAGUL_UNIT 512
+#define BOZHTAGUL_RECORDER_MEMORY(records) (BOZHTAGUL_UNIT + BOZHTAGUL_UNIT * (size_t)(records))
 
 /* No listing has more bytes, and no answer about a log of so many records: in directions 0 to 5, and in direction 6. */
 #define BOZHTAGUL_MOST_LISTING 65536
@@ -126,5 +131,24 @@ struct bozhtagul_part bozhtagul_records(
     const uint8_t *commitment, size_t commitment_len,
     const uint8_t *answer, size_t answer_len,
     uint8_t *work, size_t work_len);
+
+/* A running recorder keeps all that it knows in memory that each call is lent anew, as the call before left it, with the same length. Nothing is
+ * promised of memory in another state but that the call ends and touches nothing else. docs/RECORDER.md says what stands where.
+ *
+ * Makes the memory that of a fresh recorder, whatever it held. It has a place for each whole 512 bytes after its first 512; below 512 bytes it is
+ * row 26. */
+struct bozhtagul_outcome bozhtagul_recorder_start(
+    uint8_t *memory, size_t memory_len);
+
+/* Takes one record, the bytes of a BIRTH or FLOW and no others; positions count in it. An empty one is row 4, one with bytes after it 18, one that no
+ * place is left for 26; else it meets the row that it would as the next record of the log. */
+struct bozhtagul_outcome bozhtagul_recorder_take(
+    const uint8_t *record, size_t record_len,
+    uint8_t *memory, size_t memory_len);
+
+/* Writes the commitment of the log made of the records taken to the first 32 bytes of the output. Row 1 while none is taken. */
+struct bozhtagul_outcome bozhtagul_recorder_commitment(
+    const uint8_t *memory, size_t memory_len,
+    uint8_t *out, size_t out_len);
 
 #endif

@@ -1,10 +1,11 @@
-/* From a log to a checked history, and to a checked list of versions. At the repository's root, after `rt staticlib bozhtagul`:
+/* From a log to a checked history, and to a checked list of versions; then the same log taken by a running recorder, record by record. At the repository's root, after `rt staticlib bozhtagul`:
  *
  *     cc -Iinclude include/example.c -Ltarget/staticlib -lbozhtagul -o target/example && target/example */
 
 #include <inttypes.h>
 #include <stdio.h>
 #include <stdlib.h>
+#include <string.h>
 
 #include "bozhtagul.h"
 
@@ -39,7 +40,7 @@ static void accept(const char *call, uint64_t number, uint64_t position) {
     }
 }
 
-static uint8_t *memory(size_t length) {
+static uint8_t *memory_of(size_t length) {
     uint8_t *bytes = malloc(length);
     if (bytes == NULL) {
         fprintf(stderr, "no memory\n");
@@ -105,7 +106,7 @@ static void show_list(const uint8_t *list, uint64_t count) {
 static void view(const struct question *asked, const uint8_t *commitment, const uint8_t *answer, size_t length) {
     /* no answer of this length has more records: the shortest has 13 bytes */
     size_t work_len = BOZHTAGUL_WORK * (length / 13), list_len = BOZHTAGUL_MOST_LIST(length);
-    uint8_t *work = memory(work_len), *list = memory(list_len);
+    uint8_t *work = memory_of(work_len), *list = memory_of(list_len);
     struct bozhtagul_checked checked =
         bozhtagul_check(asked->direction, asked->entity, asked->time, asked->until, commitment, BOZHTAGUL_DIGEST, answer,
                         length, work, work_len, list, list_len);
@@ -129,19 +130,39 @@ static size_t most_answer(size_t records) {
     return one > all ? one : all;
 }
 
+/* A running recorder takes the log's records one by one, and has the log's commitment after the last. */
+static void record(size_t records, const uint8_t *commitment) {
+    size_t memory_len = BOZHTAGUL_RECORDER_MEMORY(records);
+    uint8_t *memory = memory_of(memory_len), taken[BOZHTAGUL_DIGEST];
+    struct bozhtagul_outcome started = bozhtagul_recorder_start(memory, memory_len);
+    accept("recorder_start", started.number, started.position);
+    for (size_t place = 0; place < sizeof log_k;) {
+        size_t width = log_k[place] == 1 ? 13 : 18;
+        struct bozhtagul_outcome took = bozhtagul_recorder_take(log_k + place, width, memory, memory_len);
+        accept("recorder_take", took.number, took.position);
+        place += width;
+    }
+    struct bozhtagul_outcome again = bozhtagul_recorder_take(log_k, 13, memory, memory_len);
+    printf("the first record once more: refused %" PRIu64 " at %" PRIu64 "\n", again.number, again.position);
+    struct bozhtagul_outcome asked = bozhtagul_recorder_commitment(memory, memory_len, taken, sizeof taken);
+    accept("recorder_commitment", asked.number, asked.position);
+    printf("the recorder has %s commitment\n", memcmp(taken, commitment, sizeof taken) == 0 ? "the log's" : "another");
+    free(memory);
+}
+
 int main(void) {
     /* the recorder commits to the log */
     struct bozhtagul_written read = bozhtagul_log(log_k, sizeof log_k);
     accept("log", read.number, read.position);
     size_t work_len = BOZHTAGUL_WORK * read.length;
-    uint8_t *work = memory(work_len), commitment[BOZHTAGUL_DIGEST];
+    uint8_t *work = memory_of(work_len), commitment[BOZHTAGUL_DIGEST];
     struct bozhtagul_outcome committed =
         bozhtagul_commitment(log_k, sizeof log_k, work, work_len, commitment, sizeof commitment);
     accept("commitment", committed.number, committed.position);
 
     /* the host answers */
     size_t most = most_answer(read.length);
-    uint8_t *answer = memory(most);
+    uint8_t *answer = memory_of(most);
     for (size_t place = 0; place < sizeof questions / sizeof questions[0]; place++) {
         const struct question *asked = &questions[place];
         struct bozhtagul_written answered =
@@ -153,5 +174,8 @@ int main(void) {
     }
     free(answer);
     free(work);
+
+    /* the recorder, as it runs */
+    record(read.length, commitment);
     return 0;
 }

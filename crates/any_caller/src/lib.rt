@@ -72,3 +72,15 @@ pub fn records<'a>(
     let start = b.start as usize;
     &answer[start..start + b.length as usize]
 }
+
+pub fn recorder_start(memory: &mut [u8]) -> Outcome {
+    bozhtagul::bozhtagul_recorder_start(memory)
+}
+
+pub fn recorder_take(record: &[u8], memory: &mut [u8]) -> Outcome {
+    bozhtagul::bozhtagul_recorder_take(record, memory)
+}
+
+pub fn recorder_commitment(memory: &[u8], out: &mut [u8]) -> Outcome {
+    bozhtagul::bozhtagul_recorder_commitment(memory, out)
+}

@@ -3,3 +3,4 @@ mod Plain
 mod LogRead
 mod CheckedAnswer
 mod Anchors
+mod Recorders

@@ -19,11 +19,12 @@ unfoldable pub written : Result ℕ → Written
 written (ok n) = record { number = 0; position = 0; length = n }
 written (refuse n p) = record { number = n; position = p; length = 0 }
 
--- of a call that writes, by the bytes to write: their number, or nothing
+-- of a call that writes, by the bytes to write: their number, ...
 unfoldable pub written-of : Result Bytes → Written
 written-of m = written (m >>= λ y. ok (length y))
 
-unfoldable pub outcome-of : Result Bytes → Outcome
+-- ... or nothing; and so of any call, by what it comes to
+unfoldable pub outcome-of : {A : Type 0} → Result A → Outcome
 outcome-of m = outcome (m >>= λ _. ok tt)
 
 -- the verdict: 1 no entity, 2 not yet, 3 found, 4 none so late, 5 listed; 0 where the check refuses

@@ -6,6 +6,7 @@ use outcome::Writing;
 use proof_reader::Stop;
 use question::EntityKey;
 use question::TimeKey;
+use recorder_calls::Answered;
 use strings::DIGEST_WIDTH;
 ghost use mathlib.Core.Path.{_≡_};
 ghost use Prim.Native.Nat.{_+_, _≤_};
@@ -21,6 +22,7 @@ ghost use Rattle.proof_reader.specs.Walks.{stopOf};
 ghost use Rattle.checker.specs.Runs.{verdictOf};
 ghost use Rattle.bozhtagul.specs.Results.{outcome, written, outcome-of, written-of, checked, bounds};
 ghost use Rattle.bozhtagul.specs.Demand3.{Sound, Complete};
+ghost use Rattle.bozhtagul.specs.Recorders.{plain, RecorderStarted, RecordOffered, CommitmentAsked};
 
 // The number of the row that turned a call away, or 0, and its position.
 #[repr(C)]
@@ -103,6 +105,16 @@ fn as_outcome(writing: Writing) -> Outcome
     match writing {
         Writing::Written { length } => row(0, 0),
         Writing::Refused { number, position } => row(number, position as u64),
+    }
+}
+
+// What a call answers that writes to no output, as plain numbers.
+fn as_row(answered: Answered) -> Outcome
+    ensures { λ r. ⌜ r ≡ plain answered ⌝ }
+{
+    match answered {
+        Answered::Done => row(0, 0),
+        Answered::Refused { number, position } => row(number, position as u64),
     }
 }
 
@@ -245,4 +257,30 @@ pub extern "C" fn bozhtagul_records(
         start: b.start as u64,
         length: b.length as u64,
     }
+}
+
+// ---- a running recorder
+
+// Begins a recorder in the memory that it is lent, whatever that held. It has place for a record for each whole 512 bytes after the first 512.
+#[no_mangle]
+pub extern "C" fn bozhtagul_recorder_start(memory: &mut [u8]) -> Outcome
+    ensures { λ r. ⌜ RecorderStarted (now (memory .entry)) (now (memory .exit)) r ⌝ }
+{
+    as_row(recorder_calls::start(memory))
+}
+
+// Offers a record to the recorder in a memory, which takes it or is left as it was.
+#[no_mangle]
+pub extern "C" fn bozhtagul_recorder_take(record: &[u8], memory: &mut [u8]) -> Outcome
+    ensures { λ r. ⌜ RecordOffered (now («record» .entry)) (now (memory .entry)) (now (memory .exit)) r ⌝ }
+{
+    as_row(recorder_calls::take(record, memory))
+}
+
+// Writes the commitment of the records that the recorder in a memory has taken to the front of `out`.
+#[no_mangle]
+pub extern "C" fn bozhtagul_recorder_commitment(memory: &[u8], out: &mut [u8]) -> Outcome
+    ensures { λ r. ⌜ CommitmentAsked (now (memory .entry)) (now (out .entry)) (now (out .exit)) r ⌝ }
+{
+    as_outcome(recorder_calls::commitment(memory, out))
 }

@@ -2,11 +2,11 @@
 use mathlib.Core.Path.{_≡_, refl, sym, ap, _∙_, subst}
 use Prim.Native.Nat.{ℕ, zero, suc, _+_, _-_, _*_, _<_, _≤_}
 use native.Mathlib.Omega.{arith}
-use mathlib.Core.Bool.{Bool, true, cond}
+use mathlib.Core.Bool.{Bool, true, cond, not}
 use mathlib.Core.Option.{none}
 use mathlib.Core.List.{List, [], _∷_, _++_, map}
 use lib.ListN.{length, getD, length-append, set, take, drop, replicate}
-use lib.Dec.{eqb, leb, le→leb, leb→le, not-T}
+use lib.Dec.{T, eqb, leb, ltb, le→leb, leb→le, not-T}
 use Rattle.fields.specs.Fields.{Octets, encode, decode, part, field, equal}
 use Rattle.fields.proofs.Numbers.{octets-encode, octets-append}
 use Rattle.model.specs.Result.{Result, ok, refuse, _>>=_, need}
@@ -20,6 +20,7 @@ use Rattle.model.specs.Trace.{letter-E, letter-V, letter-S, letter-T, le
 use Rattle.model.specs.Answer.{proof, trace-part, answer, log-header, log-commitment, log-answer}
 use Rattle.model.specs.LogRows.{parse, above-all, ends-rows, next-record, records-by, records-from, log-by, log-within, read-log}
 use Rattle.model.specs.CheckRows.{enough, Accepted, none-opened, none-due, check-leaf, check-all, run-under, run, path-strings, trace-strings, hashed-in-check, check-proof, take-string, due, shown-edges, shown-record, all-below, read-record, CheckedTrace, last-shown, read-records, read-trace, referred-to, first-unreferenced, unreferenced, found-position, trace-rows, with-trace, path-limit, room, run-into}
+use Rattle.model.specs.Recorder.{places, start-rows, offer, taken-with, taken, taken-after, all-taken, kept-bytes, log-after, log-taken, recorder-commitment}
 use Rattle.model.specs.Calls.{Written, output-after, fitting, writing, hash-call, commitment-bytes, commitment-call, answer-bytes, answer-call, listing-call, records-part, check-call, records-call}
 use Rattle.model.specs.Listing.{decimal-within, decimal, line, birth-word, flow-word, from-word, refused-word, at-word, made-by, version-line, too-long, listed, listing-within, listing}
 use Rattle.model.specs.Exact.{nearest-from, list-at, list-verdict, true-verdict, reached, SoundLog}
@@ -708,3 +709,73 @@ rows-of-the-calls =
       refl,
       ap (records-part (log-answer K (c .q))) (c .too-little),
     )
+
+-- ---- the running recorder, in memory that has place for K's four records
+
+-- the records of K as they are offered
+abbrev pub K-offers : List Bytes
+K-offers = map record-bytes K
+
+-- "65,535 records are sound, one more gives 2", whatever its bytes
+full-turns : (n : ℕ) (rs : List Record) (b : ℕ) (x : Bytes) → length rs ≡ 65535 → offer n rs (b ∷ x) ≡ refuse 2 0
+unfolding offer next-record
+full-turns n rs b x e =
+    pass (leb 1 (length (b ∷ x))) 4 0 _ (le→leb 1 (length (b ∷ x)) (omega arith))
+    ∙ bind-refused (next-record 65535 rs 0 (b ∷ x)) _ 2 0 (bind-refused (need (ltb (length rs) 65535) 2 0) _ 2 0 (need-no (ltb (length rs) 65535) 2 0 (subst (λ (k : ℕ). T (not (ltb k 65535))) (sym e) tt)))
+
+-- "A record offered empty meets 4 and never 2, one with bytes after it 18 once sound, and positions count in it. Errors: 26, no place left, at 0 after
+-- these, exactly when the lent memory has taken a record for each whole 512 bytes after its first 512, or a fresh start gets fewer than 512."
+pub rows-of-the-recorder :
+    (start-rows 511 ≡ refuse 26 0)
+    × (start-rows 512 ≡ ok tt)
+    × ((n : ℕ) (rs : List Record) → offer n rs [] ≡ refuse 4 0)
+    × ((n : ℕ) (rs : List Record) (b : ℕ) (x : Bytes) → length rs ≡ 65535 → offer n rs (b ∷ x) ≡ refuse 2 0)
+    × (offer 1024 [] (0 ∷ []) ≡ refuse 3 0)
+    × (offer 1024 [] (BIRTH ∷ []) ≡ refuse 4 0)
+    × (offer 1023 [] (record-bytes (birth 1 10)) ≡ refuse 26 0)
+    × (offer 1024 [] (record-bytes (birth 1 10)) ≡ ok (birth 1 10))
+    × (offer 1023 [] (record-bytes (birth 1 10) ++ (0 ∷ [])) ≡ refuse 18 13)
+    × (offer 2560 K (record-bytes (birth 3 40)) ≡ refuse 5 0)
+    × (offer 2560 K (record-bytes (birth 2 50)) ≡ refuse 6 0)
+    × (offer 2560 K (record-bytes (flow 3 3 7 50)) ≡ refuse 7 0)
+    × (offer 2560 K (record-bytes (flow 1 3 7 50)) ≡ refuse 8 0)
+    × (offer 2560 K (record-bytes (flow 1 1 7 50)) ≡ refuse 9 0)
+    × (offer 2560 K (record-bytes (flow 1 2 7 50) ++ (0 ∷ [])) ≡ refuse 18 18)
+    × (offer 2560 K (record-bytes (flow 1 2 7 50)) ≡ refuse 26 0)
+    × (offer 3071 K (record-bytes (flow 1 2 7 50)) ≡ refuse 26 0)
+    × (offer 3072 K (record-bytes (flow 1 2 7 50)) ≡ ok (flow 1 2 7 50))
+    × (all-taken 2560 K-offers ≡ K)
+    × (log-taken 2560 K-offers ≡ log-bytes K)
+    × (all-taken 2560 ([] ∷ (K-offers ++ (record-bytes (flow 1 2 7 50) ∷ []))) ≡ K)
+    × (log-taken 2560 ([] ∷ (K-offers ++ (record-bytes (flow 1 2 7 50) ∷ []))) ≡ log-bytes K)
+    × ((out : Bytes) → recorder-commitment [] out ≡ refuse 1 0)
+    × (recorder-commitment K (zeros 31) ≡ refuse 13 0)
+    × (recorder-commitment K (zeros 32) ≡ ok (log-commitment K))
+unfolding computed start-rows places offer taken-with taken taken-after all-taken kept-bytes log-after log-taken recorder-commitment log-commitment commitment
+rows-of-the-recorder = (
+  refl,
+  refl,
+  (λ n rs. refl),
+  full-turns,
+  refl,
+  refl,
+  refl,
+  refl,
+  refl,
+  refl,
+  refl,
+  refl,
+  refl,
+  refl,
+  refl,
+  refl,
+  refl,
+  refl,
+  refl,
+  refl,
+  refl,
+  refl,
+  (λ out. refl),
+  fitting-by (zeros 31) (log-commitment K) 32 (H-length _),
+  fitting-by (zeros 32) (log-commitment K) 32 (H-length _),
+)

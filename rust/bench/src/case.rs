@@ -58,6 +58,7 @@ impl Case {
                 let out = if question.direction == BETWEEN { list(&answer) } else { 0 };
                 Case { question, work, out, ..blank([&commitment[..], &answer].concat()) }
             }
+            Name::RecorderStart | Name::RecorderTake | Name::RecorderCommitment => unreachable!("a recorder's calls have a table of their own"),
         }
     }
 
@@ -80,7 +81,7 @@ impl Case {
     pub fn strings(&self) -> Vec<Vec<u8>> {
         let built = || building(sha256, &read(&self.input).expect("a sound log")).1;
         match self.call {
-            Name::Log | Name::Listing => Vec::new(),
+            Name::Log | Name::Listing | Name::RecorderStart | Name::RecorderTake | Name::RecorderCommitment => Vec::new(),
             Name::Hash => vec![self.input.clone()],
             Name::Commitment => built(),
             Name::Answer => built().into_iter().filter(|string| string[0] != b'R').collect(),
@@ -194,7 +195,7 @@ mod tests {
         }
     }
 
-    /// What the viewer says of a call's stack.
+    /// What the viewer says of a call's stack; a recorder's calls are looked at in `recorder`.
     fn said(call: Name) -> usize {
         match call {
             Name::Hash => viewer::stack::HASH,
@@ -204,6 +205,7 @@ mod tests {
             Name::Answer => viewer::stack::ANSWER,
             Name::Check => viewer::stack::CHECK,
             Name::Records => viewer::stack::RECORDS,
+            Name::RecorderStart | Name::RecorderTake | Name::RecorderCommitment => 0,
         }
     }
 
@@ -226,7 +228,7 @@ mod tests {
             let bytes = used(&mut || proved(&case, &mut lent));
             most[case.call as usize] = most[case.call as usize].max(bytes);
         }
-        for call in NAMES {
+        for call in NAMES.into_iter().filter(|call| !call.is_recorders()) {
             let (bytes, said) = (most[call as usize], said(call));
             assert!(bytes <= said && said < 2 * bytes, "{call:?} takes {bytes} bytes and is said to take {said}");
         }

@@ -1,17 +1,23 @@
 //! The instructions of a call, counted by valgrind's callgrind in a process of its own that makes nothing but this call.
 
 use crate::case::Case;
+use calls::Name;
 use std::io::{ErrorKind, Read, Write};
 use std::process::{Command, Stdio};
 
 /// The instructions inside the exported function; none if valgrind is not there.
 pub fn count(case: &Case) -> Option<u64> {
+    count_of(case.call, &case.words(), &case.input)
+}
+
+/// The same, of the case that the counting process makes of words and an input.
+pub fn count_of(call: Name, words: &[String], input: &[u8]) -> Option<u64> {
     let program = std::env::current_exe().expect("this program's place").with_file_name("count");
     let started = Command::new("valgrind")
         .args(["--tool=callgrind", "--callgrind-out-file=/dev/null"])
-        .arg(format!("--toggle-collect=bozhtagul_{}", case.call.word()))
+        .arg(format!("--toggle-collect=bozhtagul_{}", call.word()))
         .arg(program)
-        .args(case.words())
+        .args(words)
         .stdin(Stdio::piped())
         .stderr(Stdio::piped())
         .spawn();
@@ -19,7 +25,7 @@ pub fn count(case: &Case) -> Option<u64> {
         Err(error) if error.kind() == ErrorKind::NotFound => return None,
         started => started.expect("valgrind starts"),
     };
-    child.stdin.take().expect("its input").write_all(&case.input).expect("the input is taken");
+    child.stdin.take().expect("its input").write_all(input).expect("the input is taken");
     let output = child.wait_with_output().expect("valgrind ends");
     let report = String::from_utf8_lossy(&output.stderr).into_owned();
     assert!(output.status.success(), "{report}");
@@ -31,12 +37,11 @@ fn collected(report: &str) -> Option<u64> {
     report.lines().find_map(|line| line.split_once("Collected :")?.1.trim().parse().ok())
 }
 
-/// The case that the counting process is given, as words and its standard input.
-pub fn given() -> Case {
+/// The words and the standard input that the counting process is given.
+pub fn given() -> (Vec<String>, Vec<u8>) {
     let mut input = Vec::new();
     std::io::stdin().read_to_end(&mut input).expect("an input");
-    let words: Vec<String> = std::env::args().skip(1).collect();
-    Case::from_words(&words, input).unwrap_or_else(|| panic!("no case: {words:?}"))
+    (std::env::args().skip(1).collect(), input)
 }
 
 #[cfg(test)]

@@ -6,6 +6,7 @@ pub mod instructions;
 pub mod measure;
 pub mod openssl;
 pub mod plain;
+pub mod recorder;
 pub mod shapes;
 pub mod stack;
 pub mod table;

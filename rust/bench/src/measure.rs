@@ -23,6 +23,29 @@ fn thread_time() -> f64 {
     time.seconds as f64 + time.nanoseconds as f64 * 1e-9
 }
 
+/// Some work that is done once for each time that it is made ready, which is not timed.
+pub trait Fresh {
+    fn make_ready(&mut self);
+    fn run(&mut self);
+}
+
+/// Lets some works take turns, as `measure` does with ways, each turn with one run.
+pub fn measure_fresh(works: &mut [Box<dyn Fresh + '_>], turns: usize) -> Vec<Measured> {
+    let mut turn = |first: usize| {
+        let mut times = vec![0.0; works.len()];
+        for step in 0..works.len() {
+            let place = (first + step) % works.len();
+            works[place].make_ready();
+            let start = thread_time();
+            works[place].run();
+            times[place] = thread_time() - start;
+        }
+        times
+    };
+    let turns: Vec<Vec<f64>> = (0..turns).map(&mut turn).collect();
+    (0..works.len()).map(|place| summary(&turns, place)).collect()
+}
+
 /// A way to do the work.
 pub type Way<'a> = Box<dyn FnMut() + 'a>;
 
@@ -108,6 +131,22 @@ mod tests {
         let mut ways = [0, 1, 2].map(way);
         (0..4).for_each(|first| { turn(&mut ways, &[1, 2, 1], first); });
         assert_eq!(*seen.borrow(), [0, 1, 1, 2, 1, 1, 2, 0, 2, 0, 1, 1, 0, 1, 1, 2]);
+    }
+
+    #[test]
+    fn what_makes_ready_is_not_timed() {
+        struct Works(u64, u64);
+        impl Fresh for Works {
+            fn make_ready(&mut self) {
+                (0..self.0).for_each(|round| { black_box(round); });
+            }
+            fn run(&mut self) {
+                (0..self.1).for_each(|round| { black_box(round); });
+            }
+        }
+        let mut works: [Box<dyn Fresh>; 2] = [Box::new(Works(0, 400_000)), Box::new(Works(4_000_000, 400_000))];
+        let ratio = measure_fresh(&mut works, 5)[1].ratio;
+        assert!(ratio > 0.4 && ratio < 2.5, "{ratio}");
     }
 
     #[test]

@@ -10,13 +10,16 @@ use reference::{Question, Way};
 use crate::table::DIRECTIONS;
 
 /// A sound log of that many records: births and flows at random, one birth in three, flows among a quarter as many entities, one source of
-/// every flow, or two entities that feed each other in turn.
+/// every flow, or two entities that feed each other in turn; births alone, pairs of which one feeds the other once, or a yard.
 pub fn log(shape: &str, records: usize) -> Vec<u8> {
     let mut random = Random::new(records as u64);
     let birth = |n: usize| Record::Birth { entity: 3 * n as u32, time: n as u64 };
     let made: Vec<Record> = match shape {
         "busy" => one_source(records),
         "turns" => in_turn(records),
+        "births" => (0..records).map(birth).collect(),
+        "pairs" => pairs(records),
+        "yard" => yard(records, &mut random),
         "flows" => {
             let born = (records / 4).max(2);
             let flow = |n: usize, random: &mut Random| {
@@ -29,6 +32,30 @@ pub fn log(shape: &str, records: usize) -> Vec<u8> {
         _ => mixed(records, &mut random),
     };
     write(&made)
+}
+
+/// Births of two thirds, then flows from one entity to the next, each in one flow.
+fn pairs(records: usize) -> Vec<Record> {
+    let born = records - records / 3;
+    let flow = |n: usize| {
+        let source = 2 * (n - born) as u32;
+        Record::Flow { source, destination: source + 1, kind: 7, time: n as u64 }
+    };
+    let birth = |n: usize| Record::Birth { entity: n as u32, time: n as u64 };
+    (0..born).map(birth).chain((born..records).map(flow)).collect()
+}
+
+/// Programs, a tenth of the entities, that read and write files at random; an entity in five records.
+fn yard(records: usize, random: &mut Random) -> Vec<Record> {
+    let born = (records / 5).max(10);
+    let programs = born / 10;
+    let birth = |n: usize| Record::Birth { entity: n as u32, time: n as u64 };
+    let mut flow = |n: usize| {
+        let (program, file) = (random.index(programs) as u32, (programs + random.index(born - programs)) as u32);
+        let (source, destination) = if random.once_in(2) { (program, file) } else { (file, program) };
+        Record::Flow { source, destination, kind: random.byte(), time: n as u64 }
+    };
+    (0..records).map(|n| if n < born { birth(n) } else { flow(n) }).collect()
 }
 
 /// Births and flows at random; the share of births does not depend on the number of records.

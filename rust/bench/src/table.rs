@@ -21,7 +21,7 @@ pub struct Subject {
 }
 
 /// Sizes between which instructions a record are compared.
-const GROWTH: [usize; 2] = [8_192, 65_535];
+pub(crate) const GROWTH: [usize; 2] = [8_192, 65_535];
 
 /// Calls, directions and shapes: for log and commitment the mixed shape and the worst of the others by time, for the calls on a question
 /// the worse of two full histories by instructions; spans in the shape where an entity has most versions, and an empty one where it lies
@@ -154,14 +154,14 @@ fn line(cells: [String; HEADINGS.len()]) -> String {
     cells.into_iter().enumerate().map(cell).collect::<Vec<_>>().join(" ")
 }
 
-const NONE: &str = "-";
+pub(crate) const NONE: &str = "-";
 
-fn ratio(value: Option<f64>) -> String {
+pub(crate) fn ratio(value: Option<f64>) -> String {
     value.map_or(NONE.to_string(), |value| format!("{value:.2}"))
 }
 
 /// Two digits after the point, fewer above ten, none above a hundred.
-fn short(value: f64) -> String {
+pub(crate) fn short(value: f64) -> String {
     match value {
         0.0 => "0".to_string(),
         _ if value < 9.995 => format!("{value:.2}"),
@@ -171,7 +171,7 @@ fn short(value: f64) -> String {
 }
 
 /// A number with commas.
-fn grouped(number: usize) -> String {
+pub(crate) fn grouped(number: usize) -> String {
     match number {
         0..1_000 => number.to_string(),
         _ => format!("{},{:03}", grouped(number / 1_000), number % 1_000),

@@ -17,15 +17,40 @@ pub enum Name {
     Answer,
     Check,
     Records,
+    RecorderStart,
+    RecorderTake,
+    RecorderCommitment,
 }
 
-pub const NAMES: [Name; 7] =
-    [Name::Hash, Name::Log, Name::Listing, Name::Commitment, Name::Answer, Name::Check, Name::Records];
+pub const NAMES: [Name; 10] = [
+    Name::Hash,
+    Name::Log,
+    Name::Listing,
+    Name::Commitment,
+    Name::Answer,
+    Name::Check,
+    Name::Records,
+    Name::RecorderStart,
+    Name::RecorderTake,
+    Name::RecorderCommitment,
+];
 
 impl Name {
     /// The name in small letters, as the exported function has it behind `bozhtagul_`.
     pub fn word(self) -> String {
-        format!("{self:?}").to_lowercase()
+        let mut word = String::new();
+        for letter in format!("{self:?}").chars() {
+            if letter.is_uppercase() && !word.is_empty() {
+                word.push('_');
+            }
+            word.push(letter.to_ascii_lowercase());
+        }
+        word
+    }
+
+    /// Whether it is a call of a running recorder.
+    pub fn is_recorders(self) -> bool {
+        matches!(self, Name::RecorderStart | Name::RecorderTake | Name::RecorderCommitment)
     }
 
     pub fn of_word(word: &str) -> Option<Name> {
@@ -36,8 +61,9 @@ impl Name {
 /// The memory that a call is lent; what it does not take is not looked at.
 pub struct Memory<'a> {
     pub commitment: &'a [u8],
-    /// The message, the log or the answer.
+    /// The message, the log, the answer or the record; a recorder's memory where it is only read.
     pub input: &'a [u8],
+    /// The work area, or a recorder's memory.
     pub work: &'a mut [u8],
     pub out: &'a mut [u8],
 }
@@ -103,6 +129,9 @@ macro_rules! side {
                     fields!(checked, number position verdict time count)
                 }
                 Name::Records => fields!($calls::records(direction, entity, time, until, commitment, input, work), start length),
+                Name::RecorderStart => fields!($calls::recorder_start(work), number position),
+                Name::RecorderTake => fields!($calls::recorder_take(input, work), number position),
+                Name::RecorderCommitment => fields!($calls::recorder_commitment(input, out), number position),
             }
         }
     };

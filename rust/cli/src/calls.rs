@@ -15,6 +15,24 @@ pub fn most_answer(log: usize) -> usize {
     viewer::most_answer(Direction::Forward, records).max(viewer::most_span_answer(records))
 }
 
+/// The bytes of a record with that command, if it is one.
+pub fn record_width(command: u8) -> Option<usize> {
+    match command {
+        1 => Some(13),
+        2 => Some(18),
+        _ => None,
+    }
+}
+
+/// The number of records of a log, which may be empty here.
+pub fn records(log: &[u8]) -> Result<usize, Refusal> {
+    match viewer::log(log) {
+        Ok(records) => Ok(records as usize),
+        Err(_) if log.is_empty() => Ok(0),
+        Err(refusal) => Err(refusal),
+    }
+}
+
 /// What the listing program prints for a log.
 pub fn listing(log: &[u8]) -> Result<Vec<u8>, Refusal> {
     let mut out = vec![0; MOST_LISTING];

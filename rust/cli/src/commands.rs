@@ -19,6 +19,7 @@ use crate::listing;
 use crate::mark;
 use crate::names::Names;
 use crate::page::{self, Head};
+use crate::record;
 use crate::report;
 use crate::rows;
 use crate::said::Said;
@@ -74,6 +75,22 @@ texts there, because many readers' numbers have 53 bits.
         about: "a log's commitment as 64 hex digits; with --raw, as 32 bytes",
         details: "",
         run: commit,
+    },
+    Command {
+        name: "record",
+        words: "STORE",
+        options: &["--json"],
+        shown: "[--json]",
+        about: "a running recorder: takes records from standard input, a line each, keeps them in STORE and answers each with the commitment",
+        details: "\
+STORE is a folder, which is made if it is not there. Its file 'log' is the log of all records taken, for 'commit', 'answer' and the others; its
+file 'memory' is a copy of the recorder's memory, without which the next start takes longer. A line is as in a log's text form. It is answered
+in its turn, and a record that is taken is on the disk before: 'taken NUMBER COMMITMENT', with the number of records and the commitment of the
+log up to it; 'refused NUMBER at POSITION: CAUSE'; or 'unread: REASON'. A line without a record has no answer. A line that was not answered,
+because the program was stopped, may have been taken or not: send it once more, and if it was, row 5 refuses it and nothing changes. The
+status is 1 if a line was refused or could not be read. One process has a store at a time.
+",
+        run: record::run,
     },
     Command {
         name: "answer",

@@ -12,6 +12,7 @@ ENTITY, TIME in decimal: a version of ENTITY is sought, by TIME as DIRECTION say
 UNTIL        in decimal, after between and no other DIRECTION: the later time
 COMMITMENT   64 hex digits, or a file that holds them or the 32 bytes themselves
 ANSWER       an answer, as bytes
+STORE        a folder that 'record' keeps a log in
 A file may be '-': standard input, or standard output after -o and --svg.
 
 Exit status: 0 success; 1 an answer or a log was refused; 2 wrong words, or a file that cannot be read or written.

@@ -6,6 +6,7 @@ use std::str::SplitWhitespace;
 use viewer::Refusal;
 
 use crate::args::{self, Field};
+use crate::calls::record_width;
 
 const BIRTH: u8 = 1;
 const FLOW: u8 = 2;
@@ -18,6 +19,14 @@ pub fn to_bytes(text: &[u8]) -> Result<Vec<u8>, String> {
         read.map_err(|reason| format!("line {}: {reason}{}", place + 1, hint(line)))?;
     }
     Ok(log)
+}
+
+/// The bytes of the record of one line, none if it has no record; else the reason why it cannot be read.
+pub fn record_of(line: &[u8]) -> Result<Vec<u8>, String> {
+    let mut bytes = Vec::new();
+    let text = std::str::from_utf8(line).map_err(|_| "not UTF-8 text".to_string())?;
+    record(text, &mut bytes)?;
+    Ok(bytes)
 }
 
 /// What may help with a line that cannot be read: a log's first byte is no letter.
@@ -73,11 +82,7 @@ pub fn to_text(log: &[u8]) -> Result<String, Refusal> {
     let mut place = 0;
     while let Some(command) = log.get(place) {
         let refused = |number| Refusal { number, position: place as u64 };
-        let width = match *command {
-            BIRTH => 13,
-            FLOW => 18,
-            _ => return Err(refused(3)),
-        };
+        let width = record_width(*command).ok_or_else(|| refused(3))?;
         line(log.get(place..place + width).ok_or_else(|| refused(4))?, &mut text);
         place += width;
     }
@@ -138,6 +143,15 @@ mod tests {
             assert_eq!(to_bytes(text.as_bytes()), Err(said.to_string()));
         }
         assert_eq!(to_bytes(b"birth 1 10\n\xff"), Err("line 2: not UTF-8 text".to_string()));
+    }
+
+    #[test]
+    fn one_line_is_a_record_or_none() {
+        let log = reference::log::write(&reference::sample::log_k());
+        assert_eq!(record_of(b"flow 1 2 7 30 # the first\r\n"), Ok(log[26..44].to_vec()));
+        assert_eq!((record_of(b""), record_of(b" # none\n")), (Ok(vec![]), Ok(vec![])));
+        assert_eq!(record_of(b"birth 1"), Err("the time is missing".to_string()));
+        assert_eq!(record_of(b"\xff\n"), Err("not UTF-8 text".to_string()));
     }
 
     #[test]

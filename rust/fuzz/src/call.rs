@@ -11,17 +11,19 @@ pub struct Call {
     pub name: Name,
     pub question: Question,
     pub commitment: Vec<u8>,
-    /// The message, the log or the answer.
+    /// The message, the log, the answer or the record.
     pub input: Vec<u8>,
-    /// Bytes of the work area and of the output.
+    /// Bytes of the work area, or of a recorder's memory at its start, and of the output.
     pub work: usize,
     pub out: usize,
     pub pattern: Pattern,
+    /// What is put into a recorder's memory before the call, at which places.
+    pub damage: Vec<(usize, u8)>,
     /// How commitment, input, work area and output stand beside forbidden pages.
     pub edges: [Edge; 4],
 }
 
-/// What the work area and the output hold before the call.
+/// What the work area and the output hold before the call, and a recorder's memory before its start.
 #[derive(Clone, Copy, Debug)]
 pub struct Pattern {
     pub first: u8,

@@ -8,8 +8,9 @@ use reference::{log, Question, WORK};
 use crate::call::{Call, Pattern};
 use crate::guard::{announce, Edge};
 use crate::lengths::any_length;
+use crate::recorders::Kept;
 use crate::tally::Tally;
-use crate::{answers, compare, logs};
+use crate::{answers, compare, logs, recorders};
 
 #[derive(Clone, Copy, Debug, PartialEq, Eq)]
 pub struct Case {
@@ -23,8 +24,10 @@ impl Case {
         let Case { seed, index } = self;
         announce(seed, index);
         let _named = NamedOnPanic(self);
+        let mut kept = Kept::default();
         for call in self.calls() {
-            match compare::run(&call, library) {
+            let compared = if call.name.is_recorders() { kept.run(&call, library) } else { compare::run(&call, library) };
+            match compared {
                 Ok(fields) => tally.add(&call, &fields),
                 Err(difference) => {
                     return Err(format!("case {index}: {difference}: fuzz/run --seed {seed} --case {index}\n{call:?}"))
@@ -37,10 +40,11 @@ impl Case {
 
     pub fn calls(self) -> Vec<Call> {
         let random = &mut Random::new(Random::new(self.seed).number() ^ Random::new(!self.index).number());
-        match random.below(8) {
+        match random.below(9) {
             0 | 1 => vec![hash(random)],
             2..5 => on_log(random),
-            _ => on_answer(random),
+            5..8 => on_answer(random),
+            _ => recorders::any(random),
         }
     }
 }
@@ -57,11 +61,11 @@ impl Drop for NamedOnPanic {
 }
 
 /// A call with nothing lent but its input, its memory placed anyhow.
-fn blank(random: &mut Random, name: Name, input: Vec<u8>) -> Call {
+pub fn blank(random: &mut Random, name: Name, input: Vec<u8>) -> Call {
     let edges = [(); 4].map(|_| if random.once_in(2) { Edge::Start } else { Edge::End });
     let pattern = Pattern { first: random.byte(), step: [0, 1, random.byte()][random.index(3)] };
     let question = Question::new(0, 0, 0);
-    Call { name, question, commitment: Vec::new(), input, work: 0, out: 0, pattern, edges }
+    Call { name, question, commitment: Vec::new(), input, work: 0, out: 0, pattern, damage: Vec::new(), edges }
 }
 
 /// A message of some blocks, mostly few, and often near a block's end or where the padding takes another block.

@@ -1,4 +1,4 @@
-//! A call of the library beside the Rust version's: the result, and all memory that was lent.
+//! A call of the library beside the Rust version's: the result, and all memory that was lent. A recorder's calls are compared by `recorders`.
 
 use calls::{plain_rust, Fields, Memory, Name};
 use reference::Question;
@@ -99,9 +99,9 @@ mod tests {
         let call = |name| {
             let input = if [Name::Check, Name::Records].contains(&name) { host.answer(&question) } else { write(&log_k()) };
             let commitment = host.commitment().to_vec();
-            Call { name, question, commitment, input, work: 1000, out: 500, pattern: Pattern { first: 1, step: 3 }, edges }
+            Call { name, question, commitment, input, work: 1000, out: 500, pattern: Pattern { first: 1, step: 3 }, damage: Vec::new(), edges }
         };
-        NAMES.into_iter().map(call).collect()
+        NAMES.into_iter().filter(|name| !name.is_recorders()).map(call).collect()
     }
 
     #[test]

@@ -11,7 +11,7 @@ use crate::call::Call;
 const VERDICTS: [&str; 5] = ["no entity", "not yet", "found", "none so late", "listed"];
 
 /// The rows' numbers are below this one.
-const ROWS: usize = 26;
+const ROWS: usize = 27;
 
 /// Rows are counted by call, 0 for a call that is not turned away; verdicts by direction, 0 for none.
 #[derive(Clone, Debug, Default)]
@@ -68,7 +68,7 @@ impl Tally {
 impl fmt::Display for Tally {
     fn fmt(&self, text: &mut fmt::Formatter) -> fmt::Result {
         for name in NAMES {
-            write!(text, "{:<10} {:>9} calls, through {}", format!("{name:?}"), self.calls(name), self.rows[name as usize][0])?;
+            write!(text, "{:<18} {:>9} calls, through {}", format!("{name:?}"), self.calls(name), self.rows[name as usize][0])?;
             for row in self.rows_of(name).into_iter().filter(|row| *row > 0) {
                 write!(text, ", row {row}: {}", self.rows[name as usize][row])?;
             }

@@ -4,8 +4,11 @@
 //! it is the true one, and else why it is refused. The calls here give what a caller needs of a result; those of [`plain`] give all of it, and
 //! take any number for a direction.
 //!
-//! No call takes memory from the heap: the caller lends it, as [`work_area`], [`work_for`], [`list_for`] and [`most_answer`] say how much, and a
-//! call keeps nothing. Every call ends, whatever bytes it is given, and takes the stack that [`stack`] says.
+//! A recorder that runs need not rebuild its commitment: a [`Recorder`] takes one record a call into memory that it is lent, and has the commitment
+//! of the records taken at any time.
+//!
+//! No call takes memory from the heap: the caller lends it, as [`work_area`], [`work_for`], [`list_for`], [`recorder_memory`] and [`most_answer`] say
+//! how much, and a call keeps nothing. Every call ends, whatever bytes it is given, and takes the stack that [`stack`] says.
 //!
 //! # From a log to records
 //!
@@ -69,10 +72,41 @@
 //!     Ok(())
 //! }
 //! ```
+//!
+//! # A running recorder
+//!
+//! ```
+//! use viewer::Recorder;
+//!
+//! fn main() -> Result<(), viewer::Refusal> {
+//!     // entities 1 and 2 are born at 10 and 20
+//!     let birth = |entity: u32, time: u64| [&[1][..], &entity.to_be_bytes(), &time.to_be_bytes()].concat();
+//!     let log = [birth(1, 10), birth(2, 20)];
+//!
+//!     // memory for two records, which the recorder owns; it may be borrowed too
+//!     let mut recorder = Recorder::start(viewer::recorder_memory(2))?;
+//!     assert_eq!(recorder.commitment().unwrap_err().to_string(), "refused 1 at 0: log empty");
+//!     for record in &log {
+//!         recorder.take(record)?;
+//!     }
+//!
+//!     // the commitment is that of the log made of the records taken
+//!     let mut rebuilt = [0; viewer::DIGEST];
+//!     viewer::commitment(&log.concat(), &mut viewer::work_area(2), &mut rebuilt)?;
+//!     assert_eq!(recorder.commitment()?, rebuilt);
+//!
+//!     // a record that is refused changes nothing
+//!     assert_eq!(recorder.take(&birth(3, 20)).unwrap_err().to_string(), "refused 5 at 0: time not above the record before");
+//!     assert_eq!(recorder.take(&birth(3, 30)).unwrap_err().to_string(), "refused 26 at 0: no place left");
+//!     assert_eq!(recorder.commitment()?, rebuilt);
+//!     Ok(())
+//! }
+//! ```
 
 pub mod plain;
 mod question;
 mod record;
+mod recorder;
 mod refusal;
 mod room;
 pub mod stack;
@@ -80,8 +114,12 @@ mod version;
 
 pub use question::{Direction, Question, Relation, Span, UnknownDirection, Way, DIRECTIONS};
 pub use record::{Edge, Record, Records};
+pub use recorder::Recorder;
 pub use refusal::Refusal;
-pub use room::{list_for, most_answer, most_span_answer, work_area, work_for, work_length, DIGEST, MOST_LISTING, MOST_RECORDS};
+pub use room::{
+    list_for, most_answer, most_span_answer, recorder_length, recorder_memory, work_area, work_for, work_length, DIGEST, MOST_LISTING,
+    MOST_RECORDS,
+};
 pub use version::{Version, Versions};
 
 /// What an accepted answer to a [`Question`] says.

@@ -91,6 +91,9 @@ extern "C" {
         out: *mut u8,
         out_len: usize,
     ) -> Written;
+    fn bozhtagul_recorder_start(memory: *mut u8, memory_len: usize) -> Outcome;
+    fn bozhtagul_recorder_take(record: *const u8, record_len: usize, memory: *mut u8, memory_len: usize) -> Outcome;
+    fn bozhtagul_recorder_commitment(memory: *const u8, memory_len: usize, out: *mut u8, out_len: usize) -> Outcome;
 }
 
 /// An exported function on numbers, then slices to read, then slices to write, each as its pointer and its length.
@@ -139,4 +142,19 @@ pub fn check(
 /// `until` is as for [`answer`].
 pub fn records(direction: u8, entity: u32, time: u64, until: u64, commitment: &[u8], answer: &[u8], work: &mut [u8]) -> Part {
     lend!(bozhtagul_records, [direction, entity, time, until], [commitment, answer], [work])
+}
+
+/// The memory is then that of a fresh recorder, unless the call is turned away.
+pub fn recorder_start(memory: &mut [u8]) -> Outcome {
+    lend!(bozhtagul_recorder_start, [], [], [memory])
+}
+
+/// A record for the recorder whose memory is lent, as it was left.
+pub fn recorder_take(record: &[u8], memory: &mut [u8]) -> Outcome {
+    lend!(bozhtagul_recorder_take, [], [record], [memory])
+}
+
+/// The commitment of the records that the recorder took.
+pub fn recorder_commitment(memory: &[u8], out: &mut [u8]) -> Outcome {
+    lend!(bozhtagul_recorder_commitment, [], [memory], [out])
 }

@@ -10,9 +10,9 @@ pub struct Refusal {
     pub position: u64,
 }
 
-/// Each row's number and cause. Number 10 is not used again (document 02, A10), number 11 means another direction than it did (A1 and A2), and
-/// number 25 is A2's.
-const CAUSES: [(u64, &str); 24] = [
+/// Each row's number and cause. Number 10 is not used again (document 02, A10), number 11 means another direction than it did (A1 and A2),
+/// number 25 is A2's and number 26 A4's.
+const CAUSES: [(u64, &str); 25] = [
     (1, "log empty"),
     (2, "record 65,536 begins"),
     (3, "command unknown"),
@@ -37,6 +37,7 @@ const CAUSES: [(u64, &str); 24] = [
     (23, "found version's record differs from L"),
     (24, "its path digest differs from L"),
     (25, "t1 above t2"),
+    (26, "no place left"),
 ];
 
 impl Refusal {
@@ -87,21 +88,24 @@ mod tests {
             };
             assert_eq!(said(number, 7), format!("refused {number} at 7: {words}"));
         }
-        assert_eq!(CAUSES.len(), 23 + 1);
+        assert_eq!(CAUSES.len(), 23 + 2);
     }
 
-    /// What request A2 says of numbers 25 and 11.
+    /// What requests A1 and A2 say of number 11, A2 of 25 and A4 of 26.
     #[test]
     fn the_later_rows_have_the_words_of_their_request() {
         let requests = include_str!("../../../docs/02-change-requests.md");
         assert!(requests.contains("Number 11 now means a direction above 5."));
         assert!(requests.contains("Errors: 25 at 0, t1 above t2, directly after 11, which from here means above 6."));
         assert_eq!(said(25, 0), "refused 25 at 0: t1 above t2");
+        assert!(requests.contains("one with bytes after it 18 once sound, and positions count in it. Errors: 26, no place left, at 0 after these,"));
+        assert_eq!(said(18, 13), "refused 18 at 13: bytes after the end");
+        assert_eq!(said(26, 0), "refused 26 at 0: no place left");
     }
 
     #[test]
     fn a_number_outside_the_table_has_no_words() {
-        for number in [0, 10, 26, u64::MAX] {
+        for number in [0, 10, 27, u64::MAX] {
             assert_eq!(Refusal { number, position: 1 }.cause(), None);
             assert_eq!(said(number, 1), format!("refused {number} at 1: no row of the table"));
         }

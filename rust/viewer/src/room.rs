@@ -40,6 +40,16 @@ pub fn work_for(answer: &[u8]) -> Vec<u8> {
     work_area((answer.len() / SHORTEST_RECORD).min(MOST_RECORDS))
 }
 
+/// The bytes of memory that a recorder of so many records needs: 512 for each of them, and 512 before them. With fewer the last record meets row 26.
+pub const fn recorder_length(records: usize) -> usize {
+    512 + 512 * records
+}
+
+/// Memory for a recorder of that many records, of which more than [`MOST_RECORDS`] are of no use.
+pub fn recorder_memory(records: usize) -> Vec<u8> {
+    vec![0; recorder_length(records)]
+}
+
 /// An output for the list of an answer's check: for as many versions as an answer of its length has room for.
 pub fn list_for(answer: &[u8]) -> Vec<u8> {
     vec![0; VERSION * (answer.len() / L).min(MOST_LISTED)]
@@ -156,5 +166,14 @@ mod tests {
         assert_eq!((work_length(3), work_area(3).len()), (384, 384));
         assert_eq!([0, 12, 13, 25, 26].map(|length| work_for(&vec![0; length]).len()), [0, 0, 128, 128, 256]);
         assert_eq!(work_for(&vec![0; 13 * MOST_RECORDS + 13]).len(), 128 * MOST_RECORDS);
+    }
+
+    #[test]
+    fn a_recorder_has_512_bytes_a_record_and_512_before() {
+        assert_eq!([0, 1, MOST_RECORDS].map(recorder_length), [512, 1_024, 33_554_432]);
+        for records in [0, 1, 7] {
+            assert_eq!(recorder_memory(records).len(), recorder_length(records));
+            assert_eq!(reference::recorder::capacity(recorder_length(records)), records);
+        }
     }
 }

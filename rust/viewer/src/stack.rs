@@ -9,3 +9,6 @@ pub const COMMITMENT: usize = 282_624;
 pub const ANSWER: usize = 270_336;
 pub const CHECK: usize = 14_336;
 pub const RECORDS: usize = 14_336;
+pub const RECORDER_START: usize = 64;
+pub const RECORDER_TAKE: usize = 81_920;
+pub const RECORDER_COMMITMENT: usize = 2_048;

@@ -35,7 +35,7 @@ fn no_exported_call_requires_anything() {
 #[test]
 fn every_exported_call_is_called_with_any_arguments() {
     let (calls, caller) = (source("bozhtagul"), source("any_caller"));
-    assert_eq!(exported(&calls).len(), 7);
+    assert_eq!(exported(&calls).len(), 10);
     assert!(uncalled(&exported(&calls), &caller).is_empty(), "{:?}", uncalled(&exported(&calls), &caller));
     assert!(requirements(&caller).is_empty(), "{:?}", requirements(&caller));
 }

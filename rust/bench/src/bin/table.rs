@@ -1,14 +1,17 @@
-//! The table: each exported call beside the Rust version and OpenSSL, in one run.
+//! The table: each exported call beside the Rust version and OpenSSL, in one run; and that of a running recorder, which `recorder` prints alone.
 
 use bench::case::{one_by_one, plain_rust, proved, Case, Lent};
 use bench::measure::{measure, Measured, Way, TURNS};
 use bench::openssl::{OpenSsl, Strings};
 use bench::table::{headings, subjects, Row, Subject};
-use bench::{heap, instructions, plain, stack};
+use bench::{heap, instructions, plain, recorder, stack};
 use calls::Name;
 use std::hint::black_box;
 
 fn main() {
+    if std::env::args().nth(1).as_deref() == Some("recorder") {
+        return recorder::print();
+    }
     let openssl = OpenSsl::load();
     notes(&openssl);
     println!("{}", headings());
@@ -18,6 +21,8 @@ fn main() {
         println!("{}", row.line(&rows));
         rows.push(row);
     }
+    println!();
+    recorder::print();
 }
 
 fn notes(openssl: &Option<OpenSsl>) {

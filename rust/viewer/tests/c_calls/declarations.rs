@@ -102,7 +102,7 @@ fn unsized_structs(source: &str, header: &str) -> Vec<String> {
 #[test]
 fn the_header_declares_the_exported_calls() {
     let (source, header) = (text(SOURCE), text(HEADER));
-    assert_eq!((calls(&source).len(), structs(&source).len()), (7, 4));
+    assert_eq!((calls(&source).len(), structs(&source).len()), (10, 4));
     assert_eq!(undeclared(&source, &header, in_c), [""; 0]);
     assert_eq!(unsized_structs(&source, &header), [""; 0]);
 }
@@ -134,9 +134,12 @@ fn the_header_has_the_viewers_numbers() {
         ("WORK", viewer::work_length(1)),
         ("MOST_RECORDS", viewer::MOST_RECORDS),
         ("MOST_LISTING", viewer::MOST_LISTING),
+        ("UNIT", viewer::recorder_length(0)),
     ] {
         assert_eq!(defined(&header, name), Some(value), "{name}");
     }
+    let memory = "#define BOZHTAGUL_RECORDER_MEMORY(records) (BOZHTAGUL_UNIT + BOZHTAGUL_UNIT * (size_t)(records))\n";
+    assert!(header.contains(memory) && viewer::recorder_length(7) == 512 + 512 * 7);
     assert!(header.contains("#define BOZHTAGUL_MOST_ANSWER(records) (3211 + 22 * (size_t)(records))\n"));
     for records in (1..500).chain([32_768, 65_534, 65_535]) {
         assert!(viewer::most_answer(viewer::Direction::Forward, records) <= 3211 + 22 * records, "{records}");

@@ -1,5 +1,5 @@
-//! The calls from C: the header declares what the library exports, the example in C goes from a log to a checked history, and null is an empty
-//! slice.
+//! The calls from C: the header declares what the library exports, the example in C goes from a log to a checked history and runs a recorder, and
+//! null is an empty slice.
 
 mod declarations;
 mod nulls;
@@ -54,7 +54,9 @@ fn the_example_goes_from_a_log_to_a_checked_history() {
                     which versions of 1 are from 10 to 40? answer of 470 bytes\n\
                     listed, 2 versions\n\
                     1 at 10\n\
-                    1 at 40\n";
+                    1 at 40\n\
+                    the first record once more: refused 5 at 0\n\
+                    the recorder has the log's commitment\n";
     assert_eq!(run("include/example.c"), expected);
 }
 

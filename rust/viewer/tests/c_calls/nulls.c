@@ -46,5 +46,13 @@ int main(void) {
     SHOW("check", crossed);
     struct bozhtagul_checked span = bozhtagul_check(BOZHTAGUL_BETWEEN, 2, 35, 35, out, sizeof out, NULL, 0, NULL, 0, NULL, 0);
     SHOW("check", span);
+    struct bozhtagul_outcome start = bozhtagul_recorder_start(NULL, 0);
+    SHOW("recorder_start", start);
+    struct bozhtagul_outcome none = bozhtagul_recorder_take(NULL, 0, NULL, 0);
+    SHOW("recorder_take", none);
+    struct bozhtagul_outcome take = bozhtagul_recorder_take(out, sizeof out, NULL, 0);
+    SHOW("recorder_take", take);
+    struct bozhtagul_outcome asked = bozhtagul_recorder_commitment(NULL, 0, NULL, 0);
+    SHOW("recorder_commitment", asked);
     return 0;
 }

@@ -60,6 +60,9 @@ extern "C" {
         work: *mut u8,
         work_len: usize,
     ) -> Part;
+    fn bozhtagul_recorder_start(memory: *mut u8, memory_len: usize) -> Outcome;
+    fn bozhtagul_recorder_take(record: *const u8, record_len: usize, memory: *mut u8, memory_len: usize) -> Outcome;
+    fn bozhtagul_recorder_commitment(memory: *const u8, memory_len: usize, out: *mut u8, out_len: usize) -> Outcome;
 }
 
 #[test]
@@ -81,6 +84,10 @@ fn from_rust_without_any_input() {
         let checked = bozhtagul_check(1, 2, 35, 0, out.as_ptr(), 32, null(), 0, null_mut(), 0, null_mut(), 0);
         assert_eq!(checked, Checked { number: 15, position: 0, verdict: 0, time: 0, count: 0 });
         assert_eq!(bozhtagul_records(1, 2, 35, 0, out.as_ptr(), 32, null(), 0, null_mut(), 0), Part { start: 0, length: 0 });
+        assert_eq!(bozhtagul_recorder_start(null_mut(), 0), Outcome { number: 26, position: 0 });
+        assert_eq!(bozhtagul_recorder_take(null(), 0, null_mut(), 0), Outcome { number: 4, position: 0 });
+        assert_eq!(bozhtagul_recorder_take(out.as_ptr(), 32, null_mut(), 0), Outcome { number: 26, position: 0 });
+        assert_eq!(bozhtagul_recorder_commitment(null(), 0, null_mut(), 0), Outcome { number: 1, position: 0 });
     }
     assert_eq!(out, expected);
 }
@@ -116,6 +123,21 @@ fn from_rust_beside_true_inputs() {
     assert_eq!((work, out), ([0; 512], [7; 32]));
 }
 
+/// A recorder with null for the record, and for the output.
+#[test]
+fn from_rust_with_a_recorder() {
+    let mut memory = [7; 1_024];
+    let record = reference::log::write(&log_k()[..1]);
+    // sound: null goes with length 0, and no call follows it; all else is lent with its own length
+    unsafe {
+        assert_eq!(bozhtagul_recorder_start(memory.as_mut_ptr(), 1_024), Outcome { number: 0, position: 0 });
+        assert_eq!(bozhtagul_recorder_take(null(), 0, memory.as_mut_ptr(), 1_024), Outcome { number: 4, position: 0 });
+        assert_eq!(bozhtagul_recorder_commitment(memory.as_ptr(), 1_024, null_mut(), 0), Outcome { number: 1, position: 0 });
+        assert_eq!(bozhtagul_recorder_take(record.as_ptr(), 13, memory.as_mut_ptr(), 1_024), Outcome { number: 0, position: 0 });
+        assert_eq!(bozhtagul_recorder_commitment(memory.as_ptr(), 1_024, null_mut(), 0), Outcome { number: 13, position: 0 });
+    }
+}
+
 /// What the program in C prints, by calls on empty slices.
 fn expected() -> String {
     let mut text = String::new();
@@ -140,6 +162,10 @@ fn expected() -> String {
     line("answer", &written(plain::answer(6, 2, 35, 34, &[], &mut [], &mut [])));
     line("check", &checked(plain::check(6, 2, 35, 34, &[], &[], &mut [], &mut [])));
     line("check", &checked(plain::check(6, 2, 35, 35, &digest, &[], &mut [], &mut [])));
+    line("recorder_start", &outcome(plain::recorder_start(&mut [])));
+    line("recorder_take", &outcome(plain::recorder_take(&[], &mut [])));
+    line("recorder_take", &outcome(plain::recorder_take(&digest, &mut [])));
+    line("recorder_commitment", &outcome(plain::recorder_commitment(&[], &mut [])));
     text.replacen('\n', &format!("\n{}\n", to_hex(&digest)), 1)
 }
 
