@@ -20,6 +20,7 @@ use Rattle.model.specs.LogRows.{read-log}
 use Rattle.model.specs.Recorder.{unit, places, start-rows, offer, taken-with, taken, taken-after, all-taken, log-taken, recorder-commitment}
 use Rattle.model.specs.RecorderMemory.{capacity, slot-bytes, table-start, Places}
 use Rattle.model.proofs.Outcomes.{bind-eq, pass}
+use Rattle.model.proofs.RowNumbers.{number-above, offer-numbered}
 use Rattle.model.proofs.Recording.{log-taken-reads}
 use Rattle.model.proofs.LogK.{computed, record-bytes}
 use Rattle.outcome.specs.declared.Writing.{Writing}
@@ -161,6 +162,13 @@ module _ {n : ℕ} {xs : List Bytes} {m : Bytes} (a : After n xs m) where
   pub answer-after : (x m′ : Bytes) (r : Outcome) → RecordOffered x m m′ r → r ≡ outcome-of (offer n (all-taken n xs) x)
   answer-after x m′ r o = o .result rs (held a .1) ∙ ap (λ (k : ℕ). outcome-of (offer k rs x)) (held a .0)
 
+  -- (e) "A refused record ... leaves the lent memory as found", by the rows
+  pub refused-after : (x m′ : Bytes) (r : Outcome) → RecordOffered x m m′ r → (k p : ℕ) → offer n (all-taken n xs) x ≡ refuse k p → m′ ≡ m
+  unfolding outcome-of outcome _>>=_
+  refused-after x m′ r o k p q =
+      let e : r ≡ record { number = k; position = p } = answer-after x m′ r o ∙ ap outcome-of q in
+      o .kept (subst (λ (z : Outcome). 0 < z .number) (sym e) (number-above (offer n rs x) k p q (offer-numbered n rs x)))
+
   module _ (out out′ : Bytes) (r : Outcome) (c : CommitmentAsked m out out′ r) where
     -- (c) "the commitment after it is the one of the log made of those taken, in order (number 1 while none is)": by the records ...
     pub commitment-after : (r ≡ outcome-of (recorder-commitment (all-taken n xs) out)) × (out′ ≡ output-after out (recorder-commitment (all-taken n xs) out))
@@ -193,6 +201,22 @@ module _ {n : ℕ} {xs : List Bytes} {m : Bytes} (a : After n xs m) where
 pub after-a-start : After 512 [] (started (replicate 512 0))
 unfolding start-rows need answered plain
 after-a-start = fresh (replicate 512 0) (started (replicate 512 0)) (plain Done) (length-replicate {A = ℕ} 512 0) (start-plain (replicate 512 0) _ Done refl refl _ refl) refl
+
+-- a start below 512 bytes, which leaves what it found
+pub short-start : (m m′ : Bytes) (r : Outcome) → length m ≡ 511 → RecorderStarted m m′ r → (r ≡ record { number = 26; position = 0 }) × (m′ ≡ m)
+unfolding start-rows need _>>=_ outcome-of outcome
+short-start m m′ r n s =
+    let e : r ≡ record { number = 26; position = 0 } = s .result ∙ ap (λ (k : ℕ). outcome-of (start-rows k)) n in
+    (e, s .kept (subst (λ (z : Outcome). 0 < z .number) (sym e) (omega arith)))
+
+-- a start with a byte more, which stays
+pub long-start : (m′ : Bytes) (r : Outcome) → RecorderStarted (replicate 513 7) m′ r → (r ≡ record { number = 0; position = 0 }) × (m′ ≡ replicate 512 0 ++ (7 ∷ []))
+unfolding start-rows need _>>=_ outcome-of outcome started written-at
+long-start m′ r s = (s .result, s .memory)
+
+-- whatever the memory holds, the output keeps its length
+pub output-length : (m out out′ : Bytes) (r : Outcome) → length out ≡ 31 → CommitmentAsked m out out′ r → length out′ ≡ 31
+output-length m out out′ r n c = c .size ∙ n
 
 -- a memory to which two births were offered after a fresh start has their digests and the nodes of their trees, in numbered bytes
 pub two-births-after : (m : Bytes) → Octets m → After 1536 (map record-bytes two-births) m → TwoBirths m

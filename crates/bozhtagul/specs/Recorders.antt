@@ -2,12 +2,12 @@
 -- it, which have taken the records rs; of other memory only what does not ask for it is promised. Assumes nothing.
 use mathlib.Core.Path.{_≡_}
 use mathlib.Core.List.{List, [], _∷_, _++_}
-use Prim.Native.Nat.{ℕ, _≤_, _<_}
+use Prim.Native.Nat.{ℕ, _<_}
 use lib.ListN.{length}
 use Rattle.model.specs.Numbers.{Bytes}
 use Rattle.model.specs.Log.{Record}
 use Rattle.model.specs.Calls.{output-after}
-use Rattle.model.specs.Recorder.{unit, start-rows, offer, taken, recorder-commitment}
+use Rattle.model.specs.Recorder.{start-rows, offer, taken, recorder-commitment}
 use Rattle.recorder.specs.Holding.{Holds}
 use Rattle.recorder_calls.specs.Calling.{started}
 use Rattle.recorder_calls.specs.declared.Answered.{Answered}

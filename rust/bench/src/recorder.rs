@@ -6,12 +6,13 @@
 use calls::{plain_rust, proved, Fields, Memory, Name};
 use reference::graph::Graph;
 use reference::hash::H;
+use reference::host::reaching;
 use reference::log::{read, write, Record};
 use reference::recorder::UNIT;
 use reference::{running, Question, WORK};
 
 use crate::measure::{measure_fresh, Fresh, Measured};
-use crate::table::{grouped, ratio, short, GROWTH, NONE};
+use crate::table::{aligned, grouped, ratio, short, GROWTH, NONE};
 use crate::{instructions, shapes, stack};
 
 /// Turns of a row: the works compared take turns.
@@ -180,29 +181,15 @@ pub fn headings() -> String {
 }
 
 fn line(cells: [String; HEADINGS.len()]) -> String {
-    let cell = |(place, cell): (usize, String)| {
-        let width = WIDTHS[place];
-        if place < NAMES { format!("{cell:<width$}") } else { format!("{cell:>width$}") }
-    };
-    cells.into_iter().enumerate().map(cell).collect::<Vec<_>>().join(" ")
+    aligned(cells, WIDTHS, NAMES)
 }
 
-/// How many versions reach one of the last so many, beside itself, in the mean.
+/// How many versions reach one of the last so many, beside itself, in the mean; a birth is reached by none.
 fn changed(records: &[Record], calls: usize) -> f64 {
     let versions = Graph::new(records).versions;
-    let reaching = |end: usize| {
-        let mut reaches = vec![false; end + 1];
-        reaches[end] = true;
-        for place in (0..=end).rev().filter(|_| versions[end].temporal.is_some()) {
-            if reaches[place] {
-                let starts = versions[place].temporal.into_iter().chain(versions[place].dependency.map(|edge| edge.source));
-                starts.for_each(|start| reaches[start] = true);
-            }
-        }
-        reaches.iter().filter(|reaches| **reaches).count() - 1
-    };
+    let others = |end: usize| reaching(&versions, end).into_iter().filter(|reaches| *reaches).count() - 1;
     let last = records.len() - calls..records.len();
-    last.map(reaching).sum::<usize>() as f64 / calls as f64
+    last.filter(|end| versions[*end].temporal.is_some()).map(others).sum::<usize>() as f64 / calls as f64
 }
 
 pub fn measured(subject: Subject, with_instructions: bool) -> Row {

@@ -147,9 +147,14 @@ pub fn headings() -> String {
 }
 
 fn line(cells: [String; HEADINGS.len()]) -> String {
+    aligned(cells, WIDTHS, NAMES)
+}
+
+/// A line of a table: so many cells at its front are names, the others numbers.
+pub fn aligned<const CELLS: usize>(cells: [String; CELLS], widths: [usize; CELLS], names: usize) -> String {
     let cell = |(place, cell): (usize, String)| {
-        let width = WIDTHS[place];
-        if place < NAMES { format!("{cell:<width$}") } else { format!("{cell:>width$}") }
+        let width = widths[place];
+        if place < names { format!("{cell:<width$}") } else { format!("{cell:>width$}") }
     };
     cells.into_iter().enumerate().map(cell).collect::<Vec<_>>().join(" ")
 }

@@ -1,8 +1,8 @@
 //! The running recorder (request A4) against the one that rebuilds, after every offer.
 
-use reference::graph::{Graph, Version};
+use reference::graph::Graph;
 use reference::hash::{Keeping, H};
-use reference::host::Host;
+use reference::host::{reaching, Host};
 use reference::log::{write, Record, MOST_RECORDS};
 use reference::offers::Offers;
 use reference::places::{perfect_subtrees, promised, slots, table_start, Table, What, SLOT};
@@ -80,19 +80,6 @@ impl Both {
             assert_eq!(outgoing != outgoing_now, reaches, "version {version}");
         }
     }
-}
-
-/// Which versions reach one, along edges.
-fn reaching(versions: &[Version], end: usize) -> Vec<bool> {
-    let mut reaches = vec![false; versions.len()];
-    reaches[end] = true;
-    for place in (0..versions.len()).rev().filter(|&place| place <= end) {
-        if reaches[place] {
-            let starts = versions[place].temporal.into_iter().chain(versions[place].dependency.map(|edge| edge.source));
-            starts.for_each(|start| reaches[start] = true);
-        }
-    }
-    reaches
 }
 
 #[test]

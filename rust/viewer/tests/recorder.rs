@@ -1,7 +1,7 @@
 //! The exported recorder (request A4) against the Rust version that rebuilds, and its memory byte by byte where it is promised.
 
-use reference::graph::{Graph, Version};
-use reference::host::Host;
+use reference::graph::Graph;
+use reference::host::{reaching, Host};
 use reference::log::{write, Record, MOST_RECORDS};
 use reference::offers::Offers;
 use reference::places::{promised, table_start, Table, SLOT};
@@ -73,19 +73,6 @@ impl Both {
             assert_eq!(self.proved.memory()[place..place + 64], before[place..place + 64], "version {version}");
         }
     }
-}
-
-/// Which versions reach one, along edges.
-fn reaching(versions: &[Version], end: usize) -> Vec<bool> {
-    let mut reaches = vec![false; versions.len()];
-    reaches[end] = true;
-    for place in (0..=end).rev() {
-        if reaches[place] {
-            let starts = versions[place].temporal.into_iter().chain(versions[place].dependency.map(|edge| edge.source));
-            starts.for_each(|start| reaches[start] = true);
-        }
-    }
-    reaches
 }
 
 #[test]
