@@ -7,9 +7,9 @@ use Rattle.model.specs.Numbers.{Bytes}
 use Rattle.model.specs.Log.{Record}
 use Rattle.model.specs.LogRows.{read_log}
 use Rattle.model.specs.Calls.{log_call}
-use Rattle.log.specs.declared.Reading.{Reading}
-use Rattle.log.specs.declared.Reading.TheVariants.{Sound, Refused}
-use Rattle.log.specs.Reading.{reading_of}
+use Rattle.log_reader.specs.declared.Reading.{Reading}
+use Rattle.log_reader.specs.declared.Reading.TheVariants.{Sound, Refused}
+use Rattle.log_reader.specs.Reading.{reading_of}
 use Rattle.bozhtagul.specs.declared.Written.{Written}
 use Rattle.bozhtagul.specs.Results.{written}
 

@@ -14,7 +14,7 @@ ghost use Rattle.bozhtagul.specs.Demand3.{Sound, Complete};
 ghost use Rattle.bozhtagul.specs.Recorders.{plain, RecorderStarted, RecordOffered, CommitmentAsked};
 
 use checker::{Checking, Verdict};
-use log::Reading;
+use log_reader::Reading;
 use outcome::Writing;
 use proof_reader::Stop;
 use question::{EntityKey, TimeKey};
@@ -160,7 +160,7 @@ pub extern "C" fn bozhtagul_hash(message: &[u8], out: &mut [u8]) -> Outcome
 pub extern "C" fn bozhtagul_log(log: &[u8]) -> Written
     ensures { result ≡ written (log_call log.now) }
 {
-    match log::read(log) {
+    match log_reader::read(log) {
         Reading::Sound { records, last } => row_or_length(0, 0, records as u64),
         Reading::Refused { number, position } => row_or_length(number, position as u64, 0),
     }
