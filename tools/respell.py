@@ -22,6 +22,8 @@ CLAUSE = re.compile(r"^\s*(?:requires|ensures|ghost)\b")
 FRONT = ("unfoldable", "abbrev", "pub")
 # words of the kit that stand in names of lemmas beside words of this repository
 KIT = set("length drop take set append map replicate get_or div mod eqb leb cond refl sym ap".split())
+# What a file names of a library by its path, as Memᴰ.not-nil.
+OF_KIT = {"not-nil"}
 # Names that would fall together with another one: what they are called instead.
 APART = {
     "part-of": "question_part",
@@ -138,7 +140,7 @@ def main():
                     where[w].add(p)
     table = {}
     for name, files in where.items():
-        if not re.search(r"[A-Za-z0-9']-[A-Za-z0-9]|[a-z0-9][A-Z]", name) or name in types and "-" not in name:
+        if name in OF_KIT or not re.search(r"[A-Za-z0-9']-[A-Za-z0-9]|[a-z0-9][A-Z]", name) or name in types and "-" not in name:
             continue
         new = APART.get(name) or spelled(name, definitions, all("/proofs/" in p for p in files))
         if new != name and not (name[0].isupper() and "-" not in name):

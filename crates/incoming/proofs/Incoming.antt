@@ -245,7 +245,7 @@ right-entry : (work : Bytes) (n j : ℕ) → Ready work n → j < n → in_count
 unfolding Right
 right-entry work n j ready h z e =
     e ∙ sym (no_in_edges-of work j z)
-    ∙ right-digest work n ready j h (λ x m. absurd (Memᴰ.not_nil (subst (λ (es : List InEdge). Memᴰ x es) (no_edges work j z) m)))
+    ∙ right-digest work n ready j h (λ x m. absurd (Memᴰ.not-nil (subst (λ (es : List InEdge). Memᴰ x es) (no_edges work j z) m)))
 
 -- the loop, and the lent memory in it
 pub record Turning (work work' : Bytes) (n i : ℕ) (strings : Bytes) : Type 0 where

@@ -143,8 +143,8 @@ module _ (n : ℕ) (late : n ≡ 40) where
   no_version_at_40 e p = let s = (first-trace.versions e n).1 p in shown_by s.i s.inside s.is_time
 
   starts_in-trace : (j : ℕ) → j < 3 → (e : InEdge) → e among (node_at backward_2_35_records j).in_edges → e.start < 3
-  starts_in-trace zero h e m = absurd (Memᴰ.not_nil m)
-  starts_in-trace (suc zero) h e m = absurd (Memᴰ.not_nil m)
+  starts_in-trace zero h e m = absurd (Memᴰ.not-nil m)
+  starts_in-trace (suc zero) h e m = absurd (Memᴰ.not-nil m)
   starts_in-trace (suc (suc zero)) h e m = among_two (λ (e : InEdge). e.start < 3) (temporal 1) (dependency 7 0) (lit< tt) (lit< tt) e m
   starts_in-trace (suc (suc (suc j))) h e m = absurd (let z : ⊥ = omega arith in z)
 
@@ -205,7 +205,7 @@ accept_all_unsound v sound = go (sound (log-bytes K) K K-sound 1 2 35 0 (one (as
       where
         nothing : {m : ℕ} → 0 ≡ m → m ≡ 446 → ⊥
         nothing e n = omega arith
-    go (inr (strings c)) = Memᴰ.not_nil c.y_checked
+    go (inr (strings c)) = Memᴰ.not-nil c.y_checked
 
 -- refuses whatever it is given
 pub refuse-all : ℕ → ℕ → Check

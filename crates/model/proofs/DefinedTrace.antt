@@ -108,7 +108,7 @@ inside_both ms p k q hp hq =
 -- some edge inside, forward and not first
 inside-some : (ms : List ℕ) (i : ℕ) (es : List InEdge) → NoneOrBoth es → (e : InEdge) → e among edges_inside ms es → Shape forward (suc i) (edges_inside ms es)
 unfolding due
-inside-some ms i es no_edge e m = absurd (Memᴰ.not_nil (subst (λ (l : List InEdge). e among l) (inside_nil ms) m))
+inside-some ms i es no_edge e m = absurd (Memᴰ.not-nil (subst (λ (l : List InEdge). e among l) (inside_nil ms) m))
 inside-some ms i es (both p k q) e m = go (test (elem p ms)) (test (elem q ms))
   where
     go : T (elem p ms) ⊎ T (not (elem p ms)) → T (elem q ms) ⊎ T (not (elem q ms)) → Shape forward (suc i) (edges_inside ms (temporal p ∷ dependency k q ∷ []))
@@ -123,7 +123,7 @@ inside-some ms i es (both p k q) e m = go (test (elem p ms)) (test (elem q ms))
         (dependency-only k (position_in q ms) tt)
     go (inr a) (inr b) =
         absurd
-        (Memᴰ.not_nil (subst (λ (l : List InEdge). e among l) (inside_out ms (temporal p) (dependency k q ∷ []) a ∙ inside_out ms (dependency k q) [] b ∙ inside_nil ms) m))
+        (Memᴰ.not-nil (subst (λ (l : List InEdge). e among l) (inside_out ms (temporal p) (dependency k q ∷ []) a ∙ inside_out ms (dependency k q) [] b ∙ inside_nil ms) m))
 
 -- ---- the defined traces are so
 

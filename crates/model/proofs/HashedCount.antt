@@ -57,7 +57,7 @@ ones_above x (e ∷ es) h =
     omega arith
 
 ones_once : (x : ℕ) (es : List ℕ) → Up (λ (k : ℕ). k) es → x among es → sum (map (one_if x) es) ≡ 1
-ones_once x [] u m = absurd (Memᴰ.not_nil m)
+ones_once x [] u m = absurd (Memᴰ.not-nil m)
 ones_once x (e ∷ es) u m = go (λ (k : x among es). ones_once x es (up_tail (λ (k : ℕ). k) u) k) (Memᴰ.cases_cons m)
   where
     go : (x among es → sum (map (one_if x) es) ≡ 1) → (x ≡ e) ⊎ (x among es) → one_if x e + sum (map (one_if x) es) ≡ 1

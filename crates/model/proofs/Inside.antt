@@ -47,7 +47,7 @@ inside_out ms e es t = cond_F (elem e.start ms) (moved ms e ∷ edges_inside ms 
 -- ---- the edges that start inside, as a set
 
 pub inside_mem : (ms : List ℕ) (es : List InEdge) (f : InEdge) → f among es → T (elem f.start ms) → moved ms f among edges_inside ms es
-inside_mem ms [] f m t = absurd (Memᴰ.not_nil m)
+inside_mem ms [] f m t = absurd (Memᴰ.not-nil m)
 inside_mem ms (e ∷ es) f m t = go (λ (k : f among es). inside_mem ms es f k t) (Memᴰ.cases_cons m) (test (elem e.start ms))
   where
     go : (f among es → moved ms f among edges_inside ms es) → (f ≡ e) ⊎ (f among es) → T (elem e.start ms) ⊎ T (not (elem e.start ms)) → moved ms f among edges_inside ms (e ∷ es)
@@ -58,7 +58,7 @@ inside_mem ms (e ∷ es) f m t = go (λ (k : f among es). inside_mem ms es f k t
 
 pub of-inside : (ms : List ℕ) (es : List InEdge) (y : InEdge) → y among edges_inside ms es → (f : InEdge) × (f among es) × T (elem f.start ms) × (y ≡ moved ms f)
 unfolding edges_inside
-of-inside ms [] y m = absurd (Memᴰ.not_nil m)
+of-inside ms [] y m = absurd (Memᴰ.not-nil m)
 of-inside ms (e ∷ es) y m = go (λ (k : y among edges_inside ms es). of-inside ms es y k) (test (elem e.start ms))
   where
     Found : List InEdge → Type 0

@@ -23,7 +23,7 @@ module _ (log : Bytes) (rs : List Record) (s : SoundLog log rs) where
   pub fields_fit : (r : Record) → r among rs → RecordFits r
   unfolding read_log
   fields_fit =
-      log_ind (λ (rs : List Record). (r : Record) → r among rs → RecordFits r) record_limit (λ r m. absurd (Memᴰ.not_nil m))
+      log_ind (λ (rs : List Record). (r : Record) → r among rs → RecordFits r) record_limit (λ r m. absurd (Memᴰ.not-nil m))
       (λ rs q f n r m. go rs q f n r (Memᴰ.append_cases rs m)) log rs s.octets s.reads
     where
       go : (rs : List Record) (q : Record) → ((r : Record) → r among rs → RecordFits r) → Next record_limit rs q → (r : Record) → (r among rs) ⊎ (r among q ∷ []) → RecordFits r

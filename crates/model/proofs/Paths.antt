@@ -80,7 +80,7 @@ pub record Within (ns : List VersionNode) (i k : ℕ) (l : NamedEdge) : Type 0 w
 
 pub edge-within : {ns : List VersionNode} {i k : ℕ} {l : NamedEdge} (p : CausalPath ns i k) → l among edges_on p → Within ns i k l
 unfolding edges_on
-edge-within (stay h) m = absurd (Memᴰ.not_nil m)
+edge-within (stay h) m = absurd (Memᴰ.not-nil m)
 edge-within (step f p) (Memᴰ.head e) = record { a = _; b = _; edge = f; before = stay f.start_there; behind = p; is_it = e }
 edge-within (step f p) (Memᴰ.tail t) =
     let r = edge-within p t in

@@ -467,11 +467,11 @@ module _ (p : SpanQuestion) where
   span_true (tip v) u =
       by_test (within p (subtree versions_layout (tip v))) (λ (w : OpenedAll VersionLeaf). Listed (v ∷ []) w.leaves)
       (λ h. record { rises = u; from_all = λ x m. (m, subst Between (sym (Memᴰ.eq_of_singleton m)) (opened_between v h)); takes = λ x m b. m })
-      (λ h. record { rises = Up.none; from_all = λ x m. absurd (Memᴰ.not_nil m); takes = λ x m b. absurd (T_not (within p (subtree versions_layout (tip v))) h (opens_over (tip v) u x m b)) })
+      (λ h. record { rises = Up.none; from_all = λ x m. absurd (Memᴰ.not-nil m); takes = λ x m b. absurd (T_not (within p (subtree versions_layout (tip v))) h (opens_over (tip v) u x m b)) })
   span_true (branch s t) u =
       by_test (within p (subtree versions_layout (branch s t))) (λ (w : OpenedAll VersionLeaf). Listed (flat s ++ flat t) w.leaves)
       (λ h. joined-lists (span_true s (up_left time-key (flat s) (flat t) u)) (span_true t (up_right time-key (flat s) (flat t) u)))
-      (λ h. record { rises = Up.none; from_all = λ x m. absurd (Memᴰ.not_nil m); takes = λ x m b. absurd (T_not (within p (subtree versions_layout (branch s t))) h (opens_over (branch s t) u x m b)) })
+      (λ h. record { rises = Up.none; from_all = λ x m. absurd (Memᴰ.not-nil m); takes = λ x m b. absurd (T_not (within p (subtree versions_layout (branch s t))) h (opens_over (branch s t) u x m b)) })
     where
       joined-lists : {a b : List VersionLeaf} → Listed (flat s) a → Listed (flat t) b → Listed (flat s ++ flat t) (a ++ b)
       joined-lists {a} {b} x y =

@@ -127,7 +127,7 @@ module _ (ns : List VersionNode) (down : Down ns) where
     ancestors_exact h =
         add_ancestors_exact v (v ∷ []) (omega arith)
         (record {
-          rises = more (λ x k. absurd (Memᴰ.not_nil k)) none;
+          rises = more (λ x k. absurd (Memᴰ.not-nil k)) none;
           sound = λ m k. let e = Memᴰ.eq_of_singleton k in (omega arith, subst (λ (z : ℕ). CausalPath ns z v) (sym e) (stay h));
           whole = λ m b p. let c = path-up ns down p in Memᴰ.head {x = v} (omega arith);
         })
@@ -200,7 +200,7 @@ module _ (ns : List VersionNode) (down : Down ns) where
         (add_descendants_exact (drop (suc v) ns) (take (suc v) ns) (v ∷ []) (sym (take-append-drop (suc v) ns)) (omega arith)
         (subst (λ (k : ℕ). Below k (v ∷ [])) (sym len)
         (record {
-          rises = more (λ x k. absurd (Memᴰ.not_nil k)) none;
+          rises = more (λ x k. absurd (Memᴰ.not-nil k)) none;
           sound = λ m k. let e = Memᴰ.eq_of_singleton k in (omega arith, subst (λ (z : ℕ). CausalPath ns v z) (sym e) (stay h));
           whole = λ m b p. let c = path-up ns down p in Memᴰ.head {x = v} (omega arith);
         })))

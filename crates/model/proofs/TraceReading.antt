@@ -89,7 +89,7 @@ module _ (way : Way) (i : ℕ) (x : Bytes) (o : Octets x) where
           time-fits = field_below 8 x 5 o;
           types_fit = among_two (λ (z : InEdge). z.type < 256 ^ 1) (temporal (field 4 x 14)) (dependency (field 1 x 13) (field 4 x 18)) (lit< tt) (lit< tt);
           kinds_fit = among_two (λ (z : InEdge). z.kind < 256 ^ 1) (temporal (field 4 x 14)) (dependency (field 1 x 13) (field 4 x 18)) (lit< tt) (field_below 1 x 13 o);
-          types_rise = Up.more (λ f m. subst (λ (z : InEdge). 0 < z.type) (sym (Memᴰ.eq_of_singleton m)) (lit< tt)) (Up.more (λ f m. absurd (Memᴰ.not_nil m)) Up.none);
+          types_rise = Up.more (λ f m. subst (λ (z : InEdge). 0 < z.type) (sym (Memᴰ.eq_of_singleton m)) (lit< tt)) (Up.more (λ f m. absurd (Memᴰ.not-nil m)) Up.none);
           rooted = rooted_by way i (Memᴰ.head refl);
         };
         bytes = string_again letter_V (4 ∷ 8 ∷ 1 ∷ 4 ∷ 4 ∷ []) x o h e;
@@ -102,7 +102,7 @@ module _ (way : Way) (i : ℕ) (x : Bytes) (o : Octets x) where
         time-fits = field_below 8 x 5 o;
         types_fit = among_one (λ (z : InEdge). z.type < 256 ^ 1) f a;
         kinds_fit = among_one (λ (z : InEdge). z.kind < 256 ^ 1) f b;
-        types_rise = Up.more (λ f m. absurd (Memᴰ.not_nil m)) Up.none;
+        types_rise = Up.more (λ f m. absurd (Memᴰ.not-nil m)) Up.none;
         rooted = rooted_by way i (Memᴰ.head refl);
       }
 
@@ -122,7 +122,7 @@ module _ (way : Way) (i : ℕ) (x : Bytes) (o : Octets x) where
   unfolding shown_record record_string record_string_by
   again_entry h e r =
       let s = entry_shown way x in
-      let no : (f : InEdge) → f among shown_edges (entry_letter way) x → ⊥ = λ f m. Memᴰ.not_nil (subst (λ (l : List InEdge). f among l) s.0 m) in
+      let no : (f : InEdge) → f among shown_edges (entry_letter way) x → ⊥ = λ f m. Memᴰ.not-nil (subst (λ (l : List InEdge). f among l) s.0 m) in
       record {
         fine = record {
           entity-fits = field_below 4 x 1 o;
@@ -151,7 +151,7 @@ module _ (way : Way) (i : ℕ) (x : Bytes) (o : Octets x) where
 
 below_in : (i : ℕ) (es : List InEdge) → T (all_below i es) → (e : InEdge) → e among es → e.start < i
 unfolding all_below
-below_in i [] t e m = absurd (Memᴰ.not_nil m)
+below_in i [] t e m = absurd (Memᴰ.not-nil m)
 below_in i (f ∷ es) t e m = go (λ (u : T (all_below i es)) (k : e among es). below_in i es u e k) (and_T (ltb f.start i) (all_below i es) t) (Memᴰ.cases_cons m)
   where
     go : (T (all_below i es) → e among es → e.start < i) → T (ltb f.start i) × T (all_below i es) → (e ≡ f) ⊎ (e among es) → e.start < i

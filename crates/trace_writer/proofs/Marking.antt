@@ -40,7 +40,7 @@ members-same work work' (suc n) h = ap₂ (λ (b : Bool) (l : List ℕ). cond b 
 module _ (work : Bytes) where
   pub members-below : (i x : ℕ) → x among members work i → x < i
   unfolding members
-  members-below zero x m = absurd (Memᴰ.not_nil m)
+  members-below zero x m = absurd (Memᴰ.not-nil m)
   members-below (suc i) x m = go (is_marked work i) (λ (k : x among members work i). members-below i x k) m
     where
       last : (x among members work i → x < i) → (x among members work i) ⊎ (x among i ∷ []) → x < suc i
@@ -53,7 +53,7 @@ module _ (work : Bytes) where
 
   members-marked : (i x : ℕ) → x among members work i → T (is_marked work x)
   unfolding members
-  members-marked zero x m = absurd (Memᴰ.not_nil m)
+  members-marked zero x m = absurd (Memᴰ.not-nil m)
   members-marked (suc i) x m =
       by_test (is_marked work i) (λ (l : List ℕ). x among l → T (is_marked work x))
       (λ t k. last (λ (q : x among members work i). members-marked i x q) t (Memᴰ.append_cases (members work i) k)) (λ t k. members-marked i x k) m
