@@ -1,4 +1,5 @@
 // What a call that writes answers: how many bytes it wrote to the front of its output, or the row that turned it away and its position.
+#![tactic(auto)]
 #[derive(Drop)]
 pub enum Writing {
     Written { length: usize },

@@ -1,4 +1,6 @@
 // SHA-256 (FIPS 180-4): a digest of one slice, and a state that takes a message in part by part.
+#![tactic(auto)]
+
 ghost use Rattle.std.specs.Prelude.{◌≡◌, ℕ, ◌+◌, ◌-◌, ◌*◌, ◌/◌, ◌%◌, ◌^◌, ◌<◌, ◌≤◌, List, [], ◌++◌, length, take, replicate, slice_index, slice_index_or};
 ghost use Rattle.fields.specs.Fields.{part};
 ghost use Rattle.round_constants.specs.Constants.{K};
