@@ -61,12 +61,14 @@ pub to_end : {ns : List VersionNode} {i k m : ℕ} (p : CausalPath ns i k) → m
 unfolding versions_on
 to_end {ns} (stay {i} h) (Memᴰ.head e) = subst (λ (z : ℕ). CausalPath ns z i) (sym e) (stay h)
 to_end {ns} {k = k} (step f p) (Memᴰ.head e) = subst (λ (z : ℕ). CausalPath ns z k) (sym e) (step f p)
+to_end {ns = ns} {m = m} (stay {i = i} h) (Memᴰ.tail t) = elim t [ ]
 to_end (step f p) (Memᴰ.tail t) = to_end p t
 
 pub from_start : {ns : List VersionNode} {i k m : ℕ} (p : CausalPath ns i k) → m among versions_on p → CausalPath ns i m
 unfolding versions_on
 from_start {ns} (stay {i} h) (Memᴰ.head e) = subst (λ (z : ℕ). CausalPath ns i z) (sym e) (stay h)
 from_start {ns} (step {i} f p) (Memᴰ.head e) = subst (λ (z : ℕ). CausalPath ns i z) (sym e) (stay f.start_there)
+from_start {ns = ns} {m = m} (stay {i = i} h) (Memᴰ.tail t) = elim t [ ]
 from_start (step f p) (Memᴰ.tail t) = step f (from_start p t)
 
 -- an edge on a path: its start is reached from the path's start, and its end reaches the path's end

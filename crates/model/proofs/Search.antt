@@ -32,7 +32,7 @@ refers_in i (e ∷ es) t = go (λ (k : T (refers i es)). refers_in i es k) (or_T
     go rec (inl t) = (e, Memᴰ.head refl, eqb→eq e.start i t)
     go rec (inr t) = let r = rec t in (r.0, Memᴰ.tail r.1, r.2)
 
-pub in_refers : (i : ℕ) {es : List InEdge} {e : InEdge} → e among es → e.start ≡ i → T (refers i es)
+pub in_refers : (i : ℕ) {e : InEdge} {es : List InEdge} → e among es → e.start ≡ i → T (refers i es)
 unfolding refers
 in_refers i {e = e} (Memᴰ.head {x = f} {xs = es} p) s =
     T_or_left (eqb f.start i) (refers i es) (subst (λ (k : ℕ). T (eqb k i)) (sym s ∙ ap (λ (g : InEdge). g.start) p) (eqb_refl i))
@@ -48,7 +48,7 @@ referred_in ns i (m ∷ ms) t = go (λ (k : T (referred ns i ms)). referred_in n
     go rec (inl t) = (m, Memᴰ.head refl, t)
     go rec (inr t) = let r = rec t in (r.0, Memᴰ.tail r.1, r.2)
 
-pub in_referred : (ns : List VersionNode) (i : ℕ) {ms : List ℕ} {m : ℕ} → m among ms → T (refers i (node_at ns m).in_edges) → T (referred ns i ms)
+pub in_referred : (ns : List VersionNode) (i : ℕ) {m : ℕ} {ms : List ℕ} → m among ms → T (refers i (node_at ns m).in_edges) → T (referred ns i ms)
 unfolding referred refers
 in_referred ns i {m = m} (Memᴰ.head {x = q} {xs = ms} p) t =
     T_or_left (refers i (node_at ns q).in_edges) (referred ns i ms) (subst (λ (k : ℕ). T (refers i (node_at ns k).in_edges)) p t)
@@ -63,7 +63,7 @@ starts_in_in ms (e ∷ es) t = go (λ (k : T (starts_in ms es)). starts_in_in ms
     go rec (inl t) = (e, Memᴰ.head refl, in_elem e.start ms t)
     go rec (inr t) = let r = rec t in (r.0, Memᴰ.tail r.1, r.2)
 
-pub in_starts_in : (ms : List ℕ) {es : List InEdge} {e : InEdge} → e among es → e.start among ms → T (starts_in ms es)
+pub in_starts_in : (ms : List ℕ) {e : InEdge} {es : List InEdge} → e among es → e.start among ms → T (starts_in ms es)
 unfolding starts_in
 in_starts_in ms {e = e} (Memᴰ.head {x = f} {xs = es} p) k =
     T_or_left (elem f.start ms) (starts_in ms es) (subst (λ (g : InEdge). T (elem g.start ms)) p (elem_in e.start ms k))
