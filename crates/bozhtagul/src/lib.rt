@@ -24,7 +24,7 @@ use strings::DIGEST_WIDTH;
 
 // The number of the row that turned a call away, or 0, and its position.
 #[repr(C)]
-#[derive(Drop)]
+#[derive(Clone, Copy)]
 pub struct Outcome {
     pub number: u64,
     pub position: u64,
@@ -32,7 +32,7 @@ pub struct Outcome {
 
 // The same, and a length or a number of records; fields that do not apply are 0.
 #[repr(C)]
-#[derive(Drop)]
+#[derive(Clone, Copy)]
 pub struct Written {
     pub number: u64,
     pub position: u64,
@@ -42,7 +42,7 @@ pub struct Written {
 // The same, and the verdict: 0 none; 1 no entity; 2 not yet, with the time of the entity's first version; 3 found, with the version's time
 // and the number of the trace's records; 4 none so late, with the time of the entity's last version; 5 listed, with the number of versions.
 #[repr(C)]
-#[derive(Drop)]
+#[derive(Clone, Copy)]
 pub struct Checked {
     pub number: u64,
     pub position: u64,
@@ -53,7 +53,7 @@ pub struct Checked {
 
 // Where a part of the answer stands.
 #[repr(C)]
-#[derive(Drop)]
+#[derive(Clone, Copy)]
 pub struct Part {
     pub start: u64,
     pub length: u64,

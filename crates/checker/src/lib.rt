@@ -26,7 +26,7 @@ use strings::{DIGEST_WIDTH, L_INCOMING, NAME_WIDTH, TRACE_HEADER_WIDTH};
 use trace_reader::Trace;
 
 // What an accepted answer says.
-#[derive(Drop)]
+#[derive(Clone, Copy)]
 pub enum Verdict {
     NotFound { stop: Stop },
     Found { time: TimeKey, count: usize },
@@ -34,7 +34,7 @@ pub enum Verdict {
 }
 
 // The verdict of an accepted answer, or the row that turned it away and where.
-#[derive(Drop)]
+#[derive(Clone, Copy)]
 pub enum Checking {
     Accepted { verdict: Verdict },
     Refused { number: u64, position: usize },
@@ -161,7 +161,7 @@ fn compare_digest(
 }
 
 // A row that is met, and where, or none.
-#[derive(Drop)]
+#[derive(Clone, Copy)]
 enum Rows {
     Passed,
     Refused { number: u64, position: usize },
@@ -231,7 +231,7 @@ fn check_trace_rows(
 // ---- a run of the check
 
 // The outcome, and where in the answer the checked records stand: 0 and 0 if there are none.
-#[derive(Drop)]
+#[derive(Clone, Copy)]
 struct Run {
     checking: Checking,
     start: usize,
@@ -462,7 +462,7 @@ pub fn check(
 }
 
 // Where a part of the answer stands.
-#[derive(Drop)]
+#[derive(Clone, Copy)]
 pub struct Bounds {
     pub start: usize,
     pub length: usize,

@@ -21,7 +21,7 @@ use strings::{BRANCH_WIDTH, DIGEST_WIDTH, G_WIDTH};
 // ---- rows of leaves
 
 // The versions by rank, or the entities in the order of births.
-#[derive(Drop)]
+#[derive(Clone, Copy)]
 pub enum Row {
     Versions,
     Entities,

@@ -1,6 +1,7 @@
 // SHA-256 of eight messages of one length side by side. Word t of message l stands at place 8 * t + l, so that each loop is one plain
 // loop over places, which the compiler turns into vectors of four. The round is that of `sha256`.
 #![tactic(auto)]
+
 ghost use Rattle.std.specs.Prelude.{◌≡◌, ℕ, ◌+◌, ◌*◌, ◌/◌, ◌<◌, ◌≤◌, length, take, replicate};
 ghost use Rattle.fields.specs.Fields.{part, written};
 ghost use Rattle.round_constants.specs.Constants.{K};

@@ -1,5 +1,6 @@
 // Document 01 as definitions (specs/) and what is proved of them (proofs/). For code, its letters, in ASCII: of the strings hashed, ...
 #![tactic(auto)]
+
 pub const LETTER_I: u8 = 0x49;
 
 pub const LETTER_O: u8 = 0x4f;

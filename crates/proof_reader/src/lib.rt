@@ -22,7 +22,7 @@ use strings::{
 // ---- strings
 
 // A string is there, or the row that it meets.
-#[derive(Drop)]
+#[derive(Clone, Copy)]
 enum Taking {
     Taken,
     Refused { number: u64 },
@@ -60,7 +60,7 @@ fn take_string(
 }
 
 // The kind of string that was taken, or the row that it meets.
-#[derive(Drop)]
+#[derive(Clone, Copy)]
 enum Opening {
     Leaf,
     Inner,
@@ -98,10 +98,10 @@ fn open(
 // ---- the rules of the walks
 
 // Where a known subtree stands in the answer. In the tree of entities its keys are entities, in one entity's tree they are times.
-#[derive(Drop)]
+#[derive(Clone, Copy)]
 struct EntityTreeAt(usize);
 
-#[derive(Drop)]
+#[derive(Clone, Copy)]
 struct VersionTreeAt(usize);
 
 impl EntityTreeAt {
@@ -159,7 +159,7 @@ fn unmet(relation: Relation, answer: &[u8], tree: VersionTreeAt, time: TimeKey) 
 }
 
 // Where a walk stops without a version. In one entity's tree it has the key that is known there: the entity's first time, or its last.
-#[derive(Drop)]
+#[derive(Clone, Copy)]
 pub enum Stop {
     NoEntity,
     NotYet { first: TimeKey },
@@ -264,7 +264,7 @@ fn open_due(
 }
 
 // The byte behind the last string and the number of leaves opened, or the row met and where.
-#[derive(Drop)]
+#[derive(Clone, Copy)]
 enum Span {
     Read { at: usize, count: usize },
     Refused { number: u64, position: usize },
@@ -339,7 +339,7 @@ fn read_span(
 
 // Where the walk in the tree of entities ends: without the entity sought, and before which byte, or at its string G. Or the row that it meets
 // and where.
-#[derive(Drop)]
+#[derive(Clone, Copy)]
 enum EntitySearch {
     NoEntity { at: usize },
     Group { at: usize },
@@ -408,7 +408,7 @@ fn find_entity(
 // ---- the proof for one version
 
 // How a proof ends, and the byte behind its last string; `leaf` is where the string L stands. Or the row that it meets and where.
-#[derive(Drop)]
+#[derive(Clone, Copy)]
 pub enum Proof {
     Stopped { stop: Stop, at: usize },
     Found { leaf: usize, at: usize },
@@ -499,7 +499,7 @@ pub fn check_proof(
 
 // How such a proof ends: without the entity, and before which byte, or with the number of its versions that were opened and the bytes, from
 // `start` to `end`, of their strings and those above them. Or the row that it meets and where.
-#[derive(Drop)]
+#[derive(Clone, Copy)]
 pub enum ListProof {
     NoEntity {
         at: usize,

@@ -32,7 +32,7 @@ use strings::{BRANCH_WIDTH, G_WIDTH, L_WIDTH, R_WIDTH};
 // ---- the walk through a tree
 
 // Some leaves of a row that stand together: n of them, the first at `from`.
-#[derive(Drop)]
+#[derive(Clone, Copy)]
 struct Stretch {
     from: usize,
     n: usize,
@@ -63,7 +63,7 @@ fn unmet(work: &[u8], ranks: Ranks, leaves: Stretch, relation: Relation, time: T
 }
 
 // What a walk goes by: an entity in the tree of entities, a time in the tree of an entity's versions.
-#[derive(Drop)]
+#[derive(Clone, Copy)]
 enum Descent {
     ByEntity { entity: EntityKey },
     ByTime { relation: Relation, time: TimeKey },
@@ -130,7 +130,7 @@ fn half(descent: Descent, work: &[u8], ranks: Ranks, leaves: Stretch) -> Stretch
 }
 
 // The walk opens `depth` inner strings on the way to the leaf `target`, counted from the first; it stops before that leaf, or reaches it.
-#[derive(Drop)]
+#[derive(Clone, Copy)]
 enum Sought {
     Stopped { target: usize, depth: usize },
     Reached { target: usize, depth: usize },
@@ -287,14 +287,14 @@ fn put_span(
 const R_G_WIDTH: usize = R_WIDTH + G_WIDTH;
 
 // A way through a tree: the leaf that it leads toward, and how many inner strings it opens.
-#[derive(Drop)]
+#[derive(Clone, Copy)]
 pub struct Way {
     target: usize,
     depth: usize,
 }
 
 // A way through the tree of entities, and how many entities and versions there are.
-#[derive(Drop)]
+#[derive(Clone, Copy)]
 pub struct EntityPath {
     ranks: Ranks,
     target: usize,
@@ -303,7 +303,7 @@ pub struct EntityPath {
 
 // How a proof ends (`Unmet`: no version of the entity meets the time), its length, and what writing it needs: the ways through the two
 // trees and the slot of the version found, or the span of the versions listed.
-#[derive(Drop)]
+#[derive(Clone, Copy)]
 pub enum Planned {
     NoEntity {
         length: usize,
@@ -390,7 +390,7 @@ fn plan_span(work: &[u8], n: usize, path: EntityPath, span: SpanQuestion) -> Pla
 }
 
 // What is asked for: one version of an entity, or all between two times.
-#[derive(Drop)]
+#[derive(Clone, Copy)]
 pub enum Query {
     One { question: Question },
     All { span: SpanQuestion },

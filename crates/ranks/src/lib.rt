@@ -11,7 +11,7 @@ use graph::{FIRST_COLUMN, NO_SLOT, RANKED_COLUMN, SLOT_WIDTH};
 use question::{EntityKey, TimeKey};
 
 // How many entities there are, and versions.
-#[derive(Drop)]
+#[derive(Clone, Copy)]
 pub struct Ranks {
     pub entities: usize,
     pub versions: usize,

@@ -1,5 +1,6 @@
 // Document 01's strings in code: how many bytes they have, and at which byte of them a field begins.
 #![tactic(auto)]
+
 pub const DIGEST_WIDTH: usize = 32;
 
 // ---- the strings of a proof: L, N and P ("branch"), G, R

@@ -127,7 +127,7 @@ fn values_row(answer: &[u8], at: usize, letter: u8, i: usize, last: TimeKey) -> 
 }
 
 // A record's letter, or the row that it meets.
-#[derive(Drop)]
+#[derive(Clone, Copy)]
 enum RecordRow {
     Read { letter: u8 },
     Refused { number: u64 },
@@ -218,7 +218,7 @@ fn put_record(answer: &[u8], at: usize, letter: u8, work: &mut [u8], i: usize, p
 }
 
 // A record's width and time, or the row that it meets.
-#[derive(Drop)]
+#[derive(Clone, Copy)]
 enum Step {
     Taken { width: usize, time: TimeKey },
     Refused { number: u64 },
@@ -253,7 +253,7 @@ fn read_record(
 // ---- all records
 
 // The byte behind the last record, or the row that a record meets and where.
-#[derive(Drop)]
+#[derive(Clone, Copy)]
 enum Records {
     Read { at: usize },
     Refused { number: u64, position: usize },
@@ -288,7 +288,7 @@ fn read_records(answer: &[u8], start: usize, way: Way, count: usize, work: &mut 
 // ---- the trace
 
 // The number of records that a trace's header says, or the row that it meets; a work area that is too short is row 12.
-#[derive(Drop)]
+#[derive(Clone, Copy)]
 enum Header {
     Count { count: usize },
     Refused { number: u64 },
@@ -324,7 +324,7 @@ fn read_header(answer: &[u8], at: usize, way: Way, size: usize) -> Header
 }
 
 // A trace's number of records and the byte behind it, or the row that it meets and where.
-#[derive(Drop)]
+#[derive(Clone, Copy)]
 pub enum Trace {
     Read { count: usize, end: usize },
     Refused { number: u64, position: usize },
