@@ -1,5 +1,6 @@
 // A mark for each slot of the node table, one byte at column 81.
 #![tactic(auto)]
+
 ghost use Rattle.std.specs.Prelude.{◌≡◌, ◌+◌, ◌*◌, ◌≤◌, length};
 ghost use Rattle.graph.specs.Links.{Starts};
 ghost use Rattle.graph.specs.Table.{slot_width, Slot};
