@@ -1,6 +1,7 @@
 // Reading the trace of an answer into the node table: rows 15, 16, 19 and 12 of its header, rows 15, 16, 20 and 21 of its records.
 // The answer may be any bytes.
 #![tactic(auto)]
+
 ghost use Rattle.std.specs.Prelude.{◌≡◌, true, ◌||◌, [], ◌+◌, ◌*◌, ◌^◌, ◌≤◌, ◌<◌, eqb, ltb, length, drop};
 ghost use Rattle.fields.specs.Fields.{field};
 ghost use Rattle.model.specs.Numbers.{above};

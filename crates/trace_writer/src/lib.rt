@@ -1,5 +1,6 @@
 // The host's trace from a found version, over the node table: the versions in it, its length, its bytes.
 #![tactic(auto)]
+
 ghost use Rattle.std.specs.Prelude.{◌≡◌, cond, [], ◌∷◌, ℕ, ◌+◌, ◌*◌, ◌≤◌, ◌<◌, length};
 ghost use Rattle.fields.specs.Fields.{encode, written};
 ghost use Rattle.model.specs.Graph.{temporal, dependency};
