@@ -1,6 +1,7 @@
 // Reading the proof of an answer: the strings that the walk through the two trees opens, or all that two times open, rows 15 to 17. The
 // answer may be any bytes. And writing the names of the versions opened.
 #![tactic(auto)]
+
 ghost use Rattle.std.specs.Prelude.{◌≡◌, map, ℕ, ◌+◌, ◌≤◌, length, take, drop};
 ghost use Rattle.fields.specs.Fields.{part, field, written};
 ghost use Rattle.round_constants.specs.Constants.{K};
