@@ -5,7 +5,7 @@ use Rattle.proof_reader.proofs.Listing.{Writing}
 use Rattle.proof_reader.proofs.put_list.Given as goal
 
 abbrev pub invariant-loop-next : goal.invariant-loop-next
-invariant-loop-next l = (l : Listed l.answer l.start l.end (length l.initial.out)) → Writing l.answer l.end l.names l.initial.out l.out l.next l.at
+invariant-loop-next l = (fits : Listed l.answer l.start l.end (length l.initial.out)) → Writing l.answer l.end fits.names l.initial.out l.out l.next l.at
 
 abbrev pub decreases-loop-next : goal.decreases-loop-next
 decreases-loop-next l = l.end - l.next

@@ -10,12 +10,12 @@ returns-then-outside c = entities-stop _ _ _ _ _ _ c.loop-entity.invariant _ c.o
 pub returns-in-Refused : goal.returns-in-Refused
 returns-in-Refused c =
     entities_halt _ _ _ _ _ _ c.loop-entity.invariant _ c.outside.ensures
-    c.if-outside.false _ c.before.before.before.«open».ensures _ c.in-Refused.is
+    c.if-outside.false _ c.«open».ensures _ c.in-Refused.is
 
 pub returns-in-Leaf : goal.returns-in-Leaf
 returns-in-Leaf c =
     entity-found _ _ _ _ _ _ c.loop-entity.invariant _ c.outside.ensures
-    c.if-outside.false _ c.before.before.«open».ensures c.in-Leaf.is
+    c.if-outside.false _ c.«open».ensures c.in-Leaf.is
 
 pub entity_side-tree-requires : goal.entity_side-tree-requires
 entity_side-tree-requires c = search inner_there
