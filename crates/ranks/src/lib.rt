@@ -1,5 +1,6 @@
 // The versions of a node table ranked by entity and then by time: which version has which rank.
 #![tactic(auto)]
+
 ghost use Rattle.std.specs.Prelude.{◌≡◌, List, [], ◌∷◌, ◌+◌, ◌*◌, ◌≤◌, ◌<◌};
 ghost use Rattle.fields.specs.Fields.{encode, written};
 ghost use Rattle.model.specs.Graph.{VersionNode, node_at};
