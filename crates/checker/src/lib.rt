@@ -1,5 +1,6 @@
 // The calls of the checker: whether an answer, which may be any bytes, is the true one under a commitment.
 #![tactic(auto)]
+
 ghost use Rattle.std.specs.Prelude.{◌≡◌, cond, ◌&&◌, List, [], ℕ, ◌+◌, ◌*◌, ◌^◌, ◌≤◌, ◌<◌, eqb, length, get_or};
 ghost use Rattle.fields.specs.Fields.{equal};
 ghost use Rattle.round_constants.specs.Constants.{K};

@@ -1,6 +1,7 @@
 // The trees of a node table with ranks, built once: the digests of their inner strings are kept in the slots, so that any way through a tree
 // can be written from its top down, with no hash but a leaf's.
 #![tactic(auto)]
+
 ghost use Rattle.std.specs.Prelude.{◌≡◌, [], ◌∷◌, ◌+◌, ◌-◌, ◌*◌, ◌≤◌, ◌<◌, length};
 ghost use Rattle.round_constants.specs.Constants.{K};
 ghost use Rattle.model.specs.Accumulator.{branch_width};
