@@ -1,5 +1,6 @@
 // The host's writing of an answer's proof: the strings that the walk through the two trees opens, over a node table.
 #![tactic(auto)]
+
 ghost use Rattle.std.specs.Prelude.{◌≡◌, List, [], ◌∷◌, ◌++◌, ℕ, ◌+◌, ◌-◌, ◌*◌, ◌≤◌, ◌<◌, length};
 ghost use Rattle.fields.specs.Fields.{written};
 ghost use Rattle.round_constants.specs.Constants.{K};
