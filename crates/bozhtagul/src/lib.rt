@@ -1,5 +1,6 @@
 // The public calls as the outside sees them: plain numbers and byte slices.
 #![tactic(auto)]
+
 ghost use Rattle.std.specs.Prelude.{◌≡◌, ◌+◌, ◌≤◌, length};
 ghost use Rattle.fields.specs.Fields.{part};
 ghost use Rattle.model.specs.Result.{Result, ok};
