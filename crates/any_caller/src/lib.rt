@@ -1,6 +1,7 @@
 // A caller that knows nothing of what it hands over: each exported call with any arguments. This crate is proved only as long as no
 // exported call requires anything of them, and as long as the bounds that `bozhtagul_records` returns lie inside the answer.
 #![tactic(auto)]
+
 ghost use Rattle.std.specs.Prelude.{◌≡◌};
 ghost use Rattle.model.specs.Calls.{records_call};
 

@@ -7,7 +7,7 @@ use native.Mathlib.Numerals.{add-one}
 use native.Mathlib.Omega.{arith}
 use lib.ListN.{length, set, take, replicate, length-set, length-replicate, length-append}
 use lib.Seq.{take-suc-set, take_all}
-use Rattle.round_constants.specs.Constants.{Greatest, prime, primes_from, primes, root, fraction, K}
+use Rattle.round_constants.specs.Constants.{Greatest, prime, primes_from, primes, fraction, K}
 use Rattle.round_constants.specs.Working.{Known, Sieved, Struck, NextUnmarked, SixDigits}
 use Rattle.round_constants.proofs.Cubes.{cube_is, cube_small, not_above}
 use Rattle.round_constants.proofs.Roots.{greatest_is_root, count}
