@@ -1,5 +1,5 @@
 -- Eight messages from their blocks to their digests. Assumes nothing.
-use Rattle.std.proofs.Common.{◌≡◌, ℕ, zero, suc, ◌+◌, ◌-◌, ◌*◌, ◌/◌, ◌%◌, ◌^◌, ◌<◌, ◌≤◌, ◌⊎◌, List, [], ◌∷◌, ◌++◌, length, get_or, take, drop, set, replicate, sym, refl, ap, ◌∙◌, ap₂, inl, inr, ⊎_elim, append_assoc, eq-or-lt_of_le, mul-le-mul_left, mul-add, arith, length-append, length-drop, length-set, take-append-drop, length-take-le, take_all, get_or-set_same, drop-drop, take_at, drop_at, below_more}
+use Rattle.std.proofs.Common.{◌≡◌, ℕ, zero, suc, ◌+◌, ◌-◌, ◌*◌, ◌/◌, ◌%◌, ◌^◌, ◌<◌, ◌≤◌, List, [], ◌∷◌, ◌++◌, length, get_or, take, drop, set, replicate, sym, refl, ap, ◌∙◌, ap₂, inl, inr, ⊎_elim, append_assoc, eq-or-lt_of_le, mul-le-mul_left, mul-add, arith, length-append, length-drop, length-set, take-append-drop, length-take-le, take_all, get_or-set_same, drop-drop, take_at, drop_at, below_more}
 use lib.ListN.{length-replicate, replicate-append-replicate}
 use lib.Seq.{take-append-add, take-append-le, drop-append-add, drop-append-le}
 use Rattle.fields.specs.Fields.{encode, part, written}

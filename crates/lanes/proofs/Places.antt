@@ -1,5 +1,5 @@
 -- What the loops over places keep. Assumes nothing.
-use Rattle.std.proofs.Common.{◌≡◌, ℕ, ◌+◌, ◌*◌, ◌/◌, ◌<◌, ◌≤◌, ◌⊎◌, List, [], ◌∷◌, length, get_or, set, sym, refl, ap, ◌∙◌, ap₂, ⊎_elim, eq-or-lt_of_le, mul-le-mul_left, arith, length-set, get_or-set_other, get_or-set_same, below_more}
+use Rattle.std.proofs.Common.{◌≡◌, ℕ, ◌+◌, ◌*◌, ◌/◌, ◌<◌, ◌≤◌, List, [], ◌∷◌, length, get_or, set, sym, refl, ap, ◌∙◌, ap₂, ⊎_elim, eq-or-lt_of_le, mul-le-mul_left, arith, length-set, get_or-set_other, get_or-set_same, below_more}
 use Rattle.fields.specs.Fields.{field}
 use Rattle.sha256.specs.Sha256.{◌⊞◌, round}
 use Rattle.lanes.specs.Lanes.{word_on, state_at, Loaded, Spread, Begun, Turned, Added}

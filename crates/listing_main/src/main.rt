@@ -1,6 +1,7 @@
 // The listing program: what it prints for standard input is the listing's text. Of a longer input one byte above the limit is enough. That the
 // text cannot be written is said on standard error; a program here gives no status of its own.
 #![tactic(auto)]
+
 use outcome::Writing;
 
 fn main() {

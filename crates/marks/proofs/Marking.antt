@@ -10,7 +10,6 @@ use lib.ListN.{length, get_or, set}
 use Rattle.fields.specs.Fields.{decode, field}
 use Rattle.fields.proofs.Places.{set-written, field_byte}
 use Rattle.model.specs.Numbers.{Bytes}
-use Rattle.model.proofs.Lists.{none}
 use Rattle.graph.specs.Table.{Columns, outside, Kept}
 use Rattle.graph.proofs.Slots.{kept-none, kept_then, kept-written, slot-here, slot_apart}
 use Rattle.marks.specs.Marks.{mark_column, is_marked, MarkSet, Unmarked}

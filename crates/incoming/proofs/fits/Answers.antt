@@ -1,4 +1,3 @@
-use borrow.Author.Tests.{not-false}
 use Rattle.graph.proofs.Nodes.{ready-starts}
 use Rattle.graph.proofs.Strings.{previous-before, source-before}
 use Rattle.incoming.proofs.Groups.{not_so, fits-entry, fits-member}

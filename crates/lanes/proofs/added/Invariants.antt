@@ -1,4 +1,4 @@
-use Rattle.std.proofs.Common.{◌-◌, rules}
+use Rattle.std.proofs.Common.{◌-◌}
 use Rattle.lanes.specs.Lanes.{Added}
 use Rattle.lanes.proofs.added.Given as goal
 

@@ -1,4 +1,4 @@
-use Rattle.std.proofs.Common.{◌-◌, rules}
+use Rattle.std.proofs.Common.{◌-◌}
 use Rattle.lanes.specs.Lanes.{Begun}
 use Rattle.lanes.proofs.begin.Given as goal
 

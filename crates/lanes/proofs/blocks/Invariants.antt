@@ -1,4 +1,4 @@
-use Rattle.std.proofs.Common.{◌-◌, rules}
+use Rattle.std.proofs.Common.{◌-◌}
 use Rattle.lanes.proofs.Messages.{AllPassed}
 use Rattle.lanes.proofs.blocks.Given as goal
 

@@ -1,4 +1,4 @@
-use Rattle.std.proofs.Common.{◌-◌, rules}
+use Rattle.std.proofs.Common.{◌-◌}
 use Rattle.lanes.specs.Lanes.{Spread}
 use Rattle.lanes.proofs.extend.Given as goal
 

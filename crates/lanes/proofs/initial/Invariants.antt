@@ -1,4 +1,4 @@
-use Rattle.std.proofs.Common.{◌-◌, rules}
+use Rattle.std.proofs.Common.{◌-◌}
 use Rattle.lanes.proofs.Messages.{Filled}
 use Rattle.lanes.proofs.initial.Given as goal
 

@@ -1,4 +1,4 @@
-use Rattle.std.proofs.Common.{◌-◌, rules}
+use Rattle.std.proofs.Common.{◌-◌}
 use Rattle.lanes.proofs.Messages.{Digested}
 use Rattle.lanes.proofs.one_by_one.Given as goal
 

@@ -1,4 +1,4 @@
-use Rattle.std.proofs.Common.{◌-◌, rules}
+use Rattle.std.proofs.Common.{◌-◌}
 use Rattle.lanes.specs.Lanes.{Padded}
 use Rattle.lanes.proofs.pad_ends.Given as goal
 

@@ -1,4 +1,4 @@
-use Rattle.std.proofs.Common.{◌-◌, rules}
+use Rattle.std.proofs.Common.{◌-◌}
 use Rattle.lanes.specs.Lanes.{Turned}
 use Rattle.lanes.proofs.turn.Given as goal
 

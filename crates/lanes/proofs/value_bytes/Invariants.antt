@@ -1,4 +1,4 @@
-use Rattle.std.proofs.Common.{◌-◌, rules}
+use Rattle.std.proofs.Common.{◌-◌}
 use Rattle.lanes.proofs.Messages.{Spelling}
 use Rattle.lanes.proofs.value_bytes.Given as goal
 

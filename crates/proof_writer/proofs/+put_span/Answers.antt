@@ -5,7 +5,7 @@ use Rattle.question.specs.Directions.{span_of}
 use Rattle.accumulator.proofs.Splitting.{split_bounds}
 use Rattle.kept_trees.specs.Leaves.{versions_row}
 use Rattle.kept_trees.proofs.Building.{kept_halves}
-use Rattle.proof_writer.proofs.Spans.{not_true, not_false, shut_size, shut_put, leaf-size, leaf_put, branch-size, branch_put, room_for}
+use Rattle.proof_writer.proofs.Spans.{shut_size, shut_put, leaf-size, leaf_put, branch-size, branch_put, room_for}
 use native.Mathlib.Omega.{arith}
 use Rattle.proof_writer.proofs.+put_span.Goals as goal
 

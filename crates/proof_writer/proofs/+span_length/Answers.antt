@@ -1,6 +1,6 @@
 use Rattle.question.specs.Directions.{span_of}
 use Rattle.accumulator.proofs.Splitting.{split_bounds}
-use Rattle.proof_writer.proofs.Spans.{not_true, not_false, shut_size, leaf-size, branch-size}
+use Rattle.proof_writer.proofs.Spans.{shut_size, leaf-size, branch-size}
 use native.Mathlib.Omega.{arith}
 use Rattle.proof_writer.proofs.+span_length.Goals as goal
 

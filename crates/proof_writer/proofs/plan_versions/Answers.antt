@@ -1,5 +1,4 @@
 use mathlib.Core.Path.{refl}
-use Prim.Native.Nat.{◌+◌, ◌≤◌, ◌<◌}
 use Rattle.question.specs.Directions.{question_of}
 use Rattle.proof_writer.proofs.Seeking.{stopped_leads, reached_leads, sought-stopped, sought-reached, time-sought}
 use Rattle.proof_writer.proofs.Planning.{reached-leaves, reached_range, plan-unmet, plan-found}

@@ -1,4 +1,4 @@
-use Rattle.std.proofs.Common.{◌-◌, rules}
+use Rattle.std.proofs.Common.{◌-◌}
 use Rattle.sha256.proofs.Arrays.{Added}
 use Rattle.sha256.proofs.added.Given as goal
 

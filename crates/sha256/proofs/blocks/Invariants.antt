@@ -1,4 +1,4 @@
-use Rattle.std.proofs.Common.{◌-◌, rules}
+use Rattle.std.proofs.Common.{◌-◌}
 use Rattle.sha256.proofs.Messages.{Passed}
 use Rattle.sha256.proofs.blocks.Given as goal
 

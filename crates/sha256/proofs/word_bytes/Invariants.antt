@@ -1,4 +1,4 @@
-use Rattle.std.proofs.Common.{◌-◌, rules}
+use Rattle.std.proofs.Common.{◌-◌}
 use Rattle.sha256.proofs.Arrays.{Spelled}
 use Rattle.sha256.proofs.word_bytes.Given as goal
 
