@@ -48,7 +48,7 @@ fn structs(source: &str) -> Vec<Struct> {
         let (name, list) = head.split_once(" {").expect("fields");
         Struct { name: name.to_string(), fields: fields(list) }
     };
-    between(source, "#[repr(C)]\npub struct ", "}").map(given).collect()
+    between(source, "#[repr(C)]\n#[derive(Clone, Copy)]\npub struct ", "}").map(given).collect()
 }
 
 /// A text without comments, white space made one space, and none inside brackets.
