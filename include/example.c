@@ -1,4 +1,4 @@
-/* From a log to a checked history, and to a checked list of versions; then the same log taken by a running recorder, record by record. At the repository's root, after `rt staticlib bozhtagul`:
+/* From a log to a checked history, and to a checked list of versions; then the same log taken by a running recorder, record by record. At the repository's root, after `./staticlib`:
  *
  *     cc -Iinclude include/example.c -Ltarget/staticlib -lbozhtagul -o target/example && target/example */
 

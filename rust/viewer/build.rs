@@ -1,4 +1,4 @@
-// Links the proved static library. Its folder is target/staticlib at the repository's root, where `rt staticlib bozhtagul` writes it, unless
+// Links the proved static library. Its folder is target/staticlib at the repository's root, where `./staticlib` writes it, unless
 // the environment names another.
 
 use std::env;
@@ -29,7 +29,7 @@ fn main() {
     println!("cargo:rerun-if-changed={}", library.display());
     if !library.is_file() {
         fail(&format!(
-            "{} is not there.\nRun 'rt staticlib bozhtagul' at the repository's root, which proves and writes it, or set {VARIABLE} to its folder.",
+            "{} is not there.\nRun './staticlib' at the repository's root, which proves and writes it, or set {VARIABLE} to its folder.",
             library.display()
         ));
     }

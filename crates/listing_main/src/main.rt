@@ -1,20 +1,20 @@
 // The listing program: what it prints for standard input is the listing's text. Of a longer input one byte above the limit is enough. That the
-// text cannot be written is said on standard error; a program here gives no status of its own.
+// text cannot be written is said on standard error, with status 1; that the input cannot be read ends the program with that error.
 #![tactic(auto)]
 
 use outcome::Writing;
+use std::io::{self, Read, Write};
+use std::process::ExitCode;
 
-fn main() {
-    let mut input = [0u8; 9217];
-    let n = io::read_full(0, &mut input);
+fn main(rt: HostRuntime) -> io::Result<ExitCode> {
+    let mut input = Vec::new(rt.alloc());
+    rt.stdin().take(9217).read_to_end(&mut input)?;
     let mut text = [0u8; 65536];
-    match listing::list(&input[..n], &mut text) {
-        Writing::Written { length } => {
-            if io::write_all(1, &text[..length]) {
-                return;
-            }
-            io::write_all(2, b"the listing cannot be written\n");
+    if let Writing::Written { length } = listing::list(&input, &mut text) {
+        if rt.stdout().write_all(&text[..length]).is_err() {
+            rt.stderr().write_all(b"the listing cannot be written\n")?;
+            return Ok(ExitCode::FAILURE);
         }
-        Writing::Refused { number, position } => {}
     }
+    Ok(ExitCode::SUCCESS)
 }

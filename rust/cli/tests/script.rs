@@ -11,10 +11,12 @@ use common::*;
 
 const SCRIPT: &str = include_str!("../../../bozhtagul");
 const RELEASE: &str = include_str!("../../../release");
+const STATICLIB: &str = include_str!("../../../staticlib");
 
-const SOURCES: [&str; 13] = [
+const SOURCES: [&str; 14] = [
     "crates/fields/src/lib.rt",
     "crates/bozhtagul/src/lib.rt",
+    "crates/bozhtagul_c/src/lib.rt",
     "crates/other/src/lib.rt",
     "rust/Cargo.toml",
     "rust/Cargo.lock",
@@ -28,15 +30,21 @@ const SOURCES: [&str; 13] = [
     "crates.txt",
 ];
 
+/// Notes its words and the folder that it is called in. Says of each crate what rt says, and makes the library.
 const RT: &str = "#!/bin/sh
+root=$(cd \"$(dirname \"$0\")/..\" && pwd -P)
+called_in=$(pwd -P)
+cd \"$root\"
 [ \"$1\" != version ] || { cat rt.version; exit; }
-echo \"$@\" >>rt.calls
-[ ! -e rt.fails ] || { echo 'rt: fields NOT PROVED (exit 1, 2 s)' >&2; exit 1; }
+echo \"$@ in ${called_in#\"$root\"/}\" >>rt.calls
+[ ! -e rt.fails ] || { echo 'crate fields: modules loaded=1 checked=2'; echo logic=not-proved; echo 'rt: the library fields did not build' >&2; exit 1; }
 [ ! -e rt.slow ] || sleep 0.5
-echo 'rt: fields proved (1 s)' >&2
-echo logic=proved
-[ -e rt.idle ] || { mkdir -p target/staticlib && cat crates.txt crates/*/src/* 2>/dev/null >target/staticlib/libbozhtagul.a; }
-echo 'rt: target/staticlib/libbozhtagul.a has the functions'
+for crate in fields bozhtagul bozhtagul_c; do
+    echo 'library other: modules loaded=1 checked=0'
+    echo \"crate $crate: modules loaded=0 checked=1\"
+    echo 'logic=proved functions=1'
+done
+[ -e rt.idle ] || { mkdir -p crates/bozhtagul_c/out && cat crates.txt crates/*/src/* 2>/dev/null >crates/bozhtagul_c/out/libbozhtagul_c.a; }
 ";
 
 /// Makes a program that shows its words and its input, and ends with status 1.
@@ -62,8 +70,8 @@ impl Tree {
         for source in SOURCES {
             tree.put(source, "");
         }
-        tree.put("crates.txt", "# NAME: its crates\nfields:\nother: fields\nbozhtagul: fields\n");
-        for (name, text) in [("bozhtagul", SCRIPT), ("release", RELEASE), ("tools/rt", RT), ("tools/cargo", CARGO)] {
+        tree.put("crates.txt", "# NAME: its crates\nfields:\nother: fields\nbozhtagul: fields\nbozhtagul_c staticlib: fields bozhtagul\n");
+        for (name, text) in [("bozhtagul", SCRIPT), ("release", RELEASE), ("staticlib", STATICLIB), ("tools/rt", RT), ("tools/cargo", CARGO)] {
             tree.put(name, text);
             fs::set_permissions(tree.0.path(name), fs::Permissions::from_mode(0o755)).unwrap();
         }
@@ -125,13 +133,14 @@ fn the_first_use_builds_both_and_says_how_far_it_is() {
     let tree = Tree::new("first");
     assert_eq!(
         tree.said(),
-        "bozhtagul: there is no library yet: proving the library's 2 crates, which takes minutes\n\
-         bozhtagul: 1 of 2: fields proved (1 s)\n\
-         bozhtagul: 2 of 2: bozhtagul proved, and the library written\n\
+        "bozhtagul: there is no library yet: proving the library's 3 crates, which takes minutes\n\
+         bozhtagul: 1 of 3: fields proved\n\
+         bozhtagul: 2 of 3: bozhtagul proved\n\
+         bozhtagul: 3 of 3: bozhtagul_c proved, and the library written\n\
          bozhtagul: building the program\n\
          noise\n"
     );
-    assert_eq!(tree.0.read("rt.calls"), b"staticlib bozhtagul\n");
+    assert_eq!(tree.0.read("rt.calls"), b"lib in crates/bozhtagul_c\n");
     assert_eq!(tree.said(), "");
 }
 
@@ -140,14 +149,14 @@ fn two_that_start_together_build_once() {
     let tree = Tree::new("together");
     tree.put("rt.slow", "");
     let [one, two] = std::thread::scope(|scope| [scope.spawn(|| tree.said()), scope.spawn(|| tree.said())].map(|run| run.join().unwrap()));
-    assert_eq!(tree.0.read("rt.calls"), b"staticlib bozhtagul\n");
+    assert_eq!(tree.0.read("rt.calls"), b"lib in crates/bozhtagul_c\n");
     let waited = "bozhtagul: another start is building; waiting for it\n";
     assert!((one == waited) != (two == waited), "{one}, {two}");
 }
 
 #[test]
 fn an_altered_crate_builds_the_library_and_the_program_again() {
-    for source in ["crates/fields/src/lib.rt", "crates/bozhtagul/src/lib.rt", "crates.txt"] {
+    for source in ["crates/fields/src/lib.rt", "crates/bozhtagul/src/lib.rt", "crates/bozhtagul_c/src/lib.rt", "crates.txt"] {
         let tree = built("altered crate");
         tree.alter(source);
         let said = tree.said();
@@ -282,6 +291,14 @@ fn another_toolchain_is_told() {
 }
 
 #[test]
+fn what_rt_keeps_of_a_crate_builds_nothing() {
+    let tree = built("kept");
+    tree.put("crates/fields/out/incremental/kept", "");
+    tree.alter("crates/bozhtagul_c/out/libbozhtagul_c.a");
+    assert_eq!(tree.said(), "");
+}
+
+#[test]
 fn a_crate_that_the_library_does_not_stand_on_builds_nothing() {
     let tree = built("other crate");
     tree.alter("crates/other/src/lib.rt");
@@ -303,7 +320,7 @@ fn a_failed_build_is_said_and_the_program_is_not_run() {
     tree.put("rt.fails", "");
     let ran = tree.run();
     assert_eq!((ran.status, ran.text()), (2, ""));
-    assert!(ran.err.contains("rt: fields NOT PROVED (exit 1, 2 s)\nbozhtagul: the library is not built: "), "{}", ran.err);
+    assert!(ran.err.contains("rt: the library fields did not build\nbozhtagul: the library is not built: "), "{}", ran.err);
     fs::remove_file(tree.0.path("rt.fails")).unwrap();
     tree.put("cargo.fails", "");
     let ran = tree.run();

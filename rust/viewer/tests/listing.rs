@@ -8,7 +8,7 @@ use std::process::{Command, Stdio};
 use viewer::Refusal;
 
 /// The proved program, which `rt` builds.
-const PROGRAM: &str = concat!(env!("CARGO_MANIFEST_DIR"), "/../../target/bin/listing_main");
+const PROGRAM: &str = concat!(env!("CARGO_MANIFEST_DIR"), "/../../crates/listing_main/out/listing_main");
 
 /// Into an output of some length: the whole output afterwards, and the result, are those of the Rust version.
 fn list_into(random: &mut Random, input: &[u8], length: usize) -> Result<u64, Refusal> {
@@ -38,7 +38,7 @@ fn run(input: &[u8]) -> String {
         .stdin(Stdio::piped())
         .stdout(Stdio::piped())
         .spawn()
-        .expect("`rt check listing_main` builds the program");
+        .expect("`rt run` in crates/listing_main builds the program");
     let _ = program.stdin.take().unwrap().write_all(input);
     String::from_utf8(program.wait_with_output().unwrap().stdout).unwrap()
 }

@@ -2,7 +2,9 @@
 
 use super::text;
 
-const SOURCE: &str = "crates/bozhtagul/src/lib.rt";
+/// The exported calls, and the crate that they call, which has the structs and says the same of each call.
+const SOURCE: &str = "crates/bozhtagul_c/src/lib.rt";
+const LIBRARY: &str = "crates/bozhtagul/src/lib.rt";
 const HEADER: &str = "include/bozhtagul.h";
 const PLAIN: &str = "rust/viewer/src/plain.rs";
 
@@ -46,7 +48,7 @@ fn structs(source: &str) -> Vec<Struct> {
         let (name, list) = head.split_once(" {").expect("fields");
         Struct { name: name.to_string(), fields: fields(list) }
     };
-    between(source, "#[repr(C)]\npub struct ", "}").map(given).collect()
+    between(source, "#[repr(C)]\n#[derive(Clone, Copy)]\npub struct ", "}").map(given).collect()
 }
 
 /// A text without comments, white space made one space, and none inside brackets.
@@ -101,10 +103,22 @@ fn unsized_structs(source: &str, header: &str) -> Vec<String> {
 
 #[test]
 fn the_header_declares_the_exported_calls() {
-    let (source, header) = (text(SOURCE), text(HEADER));
-    assert_eq!((calls(&source).len(), structs(&source).len()), (10, 4));
+    let (source, library, header) = (text(SOURCE), text(LIBRARY), text(HEADER));
+    assert_eq!((calls(&source).len(), structs(&library).len()), (10, 4));
     assert_eq!(undeclared(&source, &header, in_c), [""; 0]);
-    assert_eq!(unsized_structs(&source, &header), [""; 0]);
+    assert_eq!(unsized_structs(&library, &header), [""; 0]);
+}
+
+/// The heads of the exported calls, from their names to their last clauses.
+fn heads(source: &str) -> Vec<&str> {
+    between(source, "pub extern \"C\" fn ", "\n{\n").map(|(head, _)| head).collect()
+}
+
+#[test]
+fn the_exported_calls_say_what_the_library_says() {
+    let (source, library) = (text(SOURCE), text(LIBRARY));
+    assert_eq!((heads(&source).len(), structs(&source).len()), (10, 0));
+    assert_eq!(heads(&source), heads(&library));
 }
 
 /// The value of a name that the header defines.
@@ -158,7 +172,7 @@ fn the_viewer_declares_the_exported_calls() {
 
 #[test]
 fn a_wrong_declaration_is_found() {
-    let source = text(SOURCE);
+    let (source, library) = (text(SOURCE), text(LIBRARY));
     for (right, wrong) in [
         ("uint32_t entity", "uint64_t entity"),
         ("*work, size_t work_len", "*work"),
@@ -169,7 +183,7 @@ fn a_wrong_declaration_is_found() {
     }
     for (right, wrong) in [("== 24", "== 16"), ("uint64_t verdict;", ""), ("uint64_t start;", "uint32_t start;")] {
         let header = text(HEADER).replace(right, wrong);
-        assert_eq!(unsized_structs(&source, &header).len(), 1, "{wrong}");
+        assert_eq!(unsized_structs(&library, &header).len(), 1, "{wrong}");
     }
     let plain = text(PLAIN).replace("entity: u32", "entity: u64");
     assert_eq!(undeclared(&source, &plain, in_rust).len(), 3);

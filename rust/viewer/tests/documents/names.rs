@@ -259,10 +259,10 @@ mod tests {
 
     fn repository() -> Repository {
         Repository::of(&[
-            ("crates/model/specs/Graph.antt", "pub record Version : Type 0 where\n  pub time : ℕ\nabbrev pub in-edges : ℕ\n"),
+            ("crates/model/specs/Graph.antt", "pub record Version : Type 0 where\n  pub time : ℕ\nabbrev pub in_edges : ℕ\n"),
             ("crates/model/must-fail/no_edge.edit", ""),
-            ("crates/log/specs/Reading.antt", "pub readingOf : ℕ\n"),
-            ("crates/log/src/lib.rt", "pub fn read(log: &[u8]) -> Reading\n    ensures result { r }\nfn next() -> u64\n"),
+            ("crates/log_reader/specs/Reading.antt", "pub reading_of : ℕ\n"),
+            ("crates/log_reader/src/lib.rt", "pub fn read(log: &[u8]) -> Reading\n    ensures result { result ≡ 0 }\nfn next() -> u64\n"),
             ("crates/bozhtagul/src/lib.rt", "pub extern \"C\" fn bozhtagul_log(log: &[u8])\n"),
             ("rust/viewer/tests/log.rs", "fn helper() {}\n#[test]\nfn by_hand() {}\n"),
             ("rust/viewer/tests/check.rs", ""),
@@ -277,13 +277,13 @@ mod tests {
     #[test]
     fn what_is_there_is_found() {
         let texts = [
-            ("Graph.Version, in-edges, time; `log::read`, `next` (`result`)", 6),
-            ("`log/specs/Reading`: readingOf, by PROMISES.md and `bozhtagul_log`", 4),
+            ("Graph.Version, in_edges, time; `log_reader::read`, `next` (`result`)", 6),
+            ("`log_reader/specs/Reading`: reading_of, by PROMISES.md and `bozhtagul_log`", 4),
             ("`viewer/tests/log`, `check`; `viewer/tests/log`: `by_hand` (lent by `&mut`)", 4),
             ("must-fail of `model`: no_edge", 2),
-            ("`readingOf` of the crate `log`", 2),
+            ("`reading_of` of the crate `log_reader`", 2),
             ("Graph.time: every version has one, place, count and all", 1),
-            ("| `log::read` | a sentence of words | Graph |", 2),
+            ("| `log_reader::read` | a sentence of words | Graph |", 2),
         ];
         for (text, count) in texts {
             let found = read(text, Checked::All);
@@ -295,23 +295,23 @@ mod tests {
     fn what_is_not_there_is_reported() {
         let texts = [
             ("Graph.Vertex", "Graph.Vertex"),
-            ("Graph.Version, out-edges", "out-edges"),
+            ("Graph.Version, out_edges", "out_edges"),
             ("Graph.Version, place", "place"),
             ("Grape.Version", "Grape.Version"),
-            ("Reading.in-edges", "Reading.in-edges"),
-            ("`log::write`", "log::write"),
-            ("`log::read`, `write`", "write"),
-            ("`log::read` (`output`)", "output"),
-            ("`log/specs/Writing`", "log/specs/Writing"),
+            ("Reading.in_edges", "Reading.in_edges"),
+            ("`log_reader::write`", "log_reader::write"),
+            ("`log_reader::read`, `write`", "write"),
+            ("`log_reader::read` (`output`)", "output"),
+            ("`log_reader/specs/Writing`", "log_reader/specs/Writing"),
             ("`viewer/tests/log`: `by_chance`", "by_chance"),
             ("`viewer/tests/log`: `helper`", "helper"),
             ("`viewer/tests/log`, `answer`", "answer"),
             ("must-fail of `model`: no_edges", "no_edges"),
-            ("must-fail of `log`: no_edge; `model`", "no_edge"),
+            ("must-fail of `log_reader`: no_edge; `model`", "no_edge"),
             ("`viewer/tests/check`: `by_hand`; `viewer/tests/log`", "by_hand"),
             ("`bozhtagul_hash`", "bozhtagul_hash"),
             ("see OATHS.md", "OATHS.md"),
-            ("| `log::read` | a\n| `no_edge` |", "no_edge"),
+            ("| `log_reader::read` | a\n| `no_edge` |", "no_edge"),
         ];
         for (text, name) in texts {
             assert_eq!(read(text, Checked::All).wrong.len(), 1, "{text}");
@@ -321,9 +321,9 @@ mod tests {
 
     #[test]
     fn elsewhere_only_names_with_their_place_are_checked() {
-        let found = read("`log::read`, `Graph.time`, `log/specs`, `fuzz`, an out-edge; `proofs/NAME/Proof.antt`, `x/*.edit`", Checked::WithPlace);
+        let found = read("`log_reader::read`, `Graph.time`, `log_reader/specs`, `fuzz`, an out-edge; `proofs/NAME/Proof.antt`, `x/*.edit`", Checked::WithPlace);
         assert_eq!((found.names, found.wrong), (3, vec![]));
-        for text in ["`log::write`", "`Graph.place`", "`log/proofs`", "`viewer/tests/answer --all`"] {
+        for text in ["`log_reader::write`", "`Graph.place`", "`log_reader/proofs`", "`viewer/tests/answer --all`"] {
             assert_eq!(read(text, Checked::WithPlace).wrong.len(), 1, "{text}");
         }
     }

@@ -81,8 +81,16 @@ fn read_below(root: &Path, part: &str, files: &mut BTreeMap<String, String>) {
     }
     for entry in fs::read_dir(&path).expect("a folder") {
         let name = entry.expect("an entry").file_name();
-        read_below(root, &format!("{part}/{}", name.to_str().expect("UTF-8")), files);
+        let below = format!("{part}/{}", name.to_str().expect("UTF-8"));
+        if !is_kept(&below) {
+            read_below(root, &below, files);
+        }
     }
+}
+
+/// Whether a folder is `crates/NAME/out`, where the prover keeps what it made.
+fn is_kept(path: &str) -> bool {
+    matches!(path.split('/').collect::<Vec<_>>()[..], ["crates", _, "out"])
 }
 
 fn declared<'a>(path: &str, text: &'a str) -> impl Iterator<Item = &'a str> {
@@ -109,14 +117,18 @@ fn declared_in_logic(line: &str) -> Option<&str> {
     (named && (public || indent <= 2)).then_some(name)
 }
 
-/// The name that a line of Rattle or Rust declares; a contract's clause is declared by `ensures NAME`.
+/// The name that a line of Rattle or Rust declares; a contract's clause is declared by `ensures NAME {`, and one without a name by none.
 fn declared_in_code(line: &str) -> Option<&str> {
     if line.trim_start().starts_with("//") {
         return None;
     }
+    if let Some(clause) = line.trim_start().strip_prefix("ensures") {
+        let name = clause.trim_start_matches('*').split('{').next().map_or("", str::trim);
+        return (!name.is_empty()).then_some(name);
+    }
     let mut words = line.split(|letter: char| !letter.is_alphanumeric() && letter != '_').filter(|word| !word.is_empty());
     let keyword = words.find(|word| !["pub", "crate", "extern", "C"].contains(word))?;
-    let declares = ["fn", "struct", "enum", "const", "mod", "ensures"].contains(&keyword);
+    let declares = ["fn", "struct", "enum", "const", "mod"].contains(&keyword);
     words.next().filter(|_| declares)
 }
 
@@ -134,16 +146,19 @@ mod tests {
     #[test]
     fn definitions_fields_and_laws_are_declared() {
         let cases = [
-            ("abbrev pub letter-L : ℕ", Some("letter-L")),
+            ("abbrev pub letter_L : ℕ", Some("letter_L")),
             ("pub record Subtree : Type 0 where", Some("Subtree")),
             ("pub record Exact (s t : ℕ) : Type 0 where", Some("Exact")),
             ("  pub least : ℕ", Some("least")),
             ("  tip : A → Tree A", Some("tip")),
             ("    pub inner : ℕ", Some("inner")),
-            ("pub rows-of-the-log :", Some("rows-of-the-log")),
+            ("pub rows_of_the_log :", Some("rows_of_the_log")),
+            ("unfoldable pub given : Result Bytes → Writing", Some("given")),
+            ("abbrev pub ◌⊞◌ : ℕ → ℕ → ℕ", Some("◌⊞◌")),
+            ("pub decode-encode : {w : ℕ} → w ≡ w", Some("decode-encode")),
             ("    local : ℕ", None),
-            ("letter-L = 0x4c", None),
-            ("-- letter-N : a comment", None),
+            ("letter_L = 0x4c", None),
+            ("-- letter_N : a comment", None),
             ("    record { least = 1 }", None),
         ];
         for (line, name) in cases {
@@ -158,7 +173,10 @@ mod tests {
             ("pub extern \"C\" fn hash(", Some("hash")),
             ("    pub(crate) fn below(self)", Some("below")),
             ("pub struct TimeKey(pub u64);", Some("TimeKey")),
-            ("    ensures result { λ r. r }", Some("result")),
+            ("    ensures result { result ≡ given m }", Some("result")),
+            ("    ensures* result { sem result }", Some("result")),
+            ("    ensures { result ≡ given m }", None),
+            ("    requires { result ≡ given m }", None),
             ("// fn gone()", None),
             ("    read(log)", None),
         ];
@@ -176,11 +194,11 @@ mod tests {
 
     #[test]
     fn a_path_may_lack_its_beginning_and_its_ending() {
-        let repository = Repository::of(&[("crates/log/specs/Reading.antt", ""), ("rust/viewer/tests/log.rs", ""), ("test", "")]);
-        for written in ["crates/log", "log/specs/Reading", "specs/Reading.antt", "specs/", "viewer/tests/log", "rust/viewer", "./test"] {
+        let repository = Repository::of(&[("crates/log_reader/specs/Reading.antt", ""), ("rust/viewer/tests/log.rs", ""), ("test", "")]);
+        for written in ["crates/log_reader", "log_reader/specs/Reading", "specs/Reading.antt", "specs/", "viewer/tests/log", "rust/viewer", "./test"] {
             assert!(repository.find(written).is_some(), "{written}");
         }
-        for written in ["log/specs/Writing", "viewer/tests/lo", "specs/Read", "tests"] {
+        for written in ["log_reader/specs/Writing", "viewer/tests/lo", "specs/Read", "tests"] {
             assert_eq!(repository.find(written), None, "{written}");
         }
     }
