@@ -23,9 +23,9 @@ const REQUESTS: &str = "docs/02-change-requests.md";
 const WRONG_VERSIONS: &str = "Wrong versions that are refused";
 
 /// What stands at the root and is no folder of a build.
-const PARTS: [&str; 15] = [
+const PARTS: [&str; 16] = [
     "README.md", "LICENSE", "test", "wrong-versions", "bozhtagul", "staticlib", "release", "crates.txt", "crates", "include", "rust", "docs", "bench",
-    "fuzz", "practical",
+    "fuzz", "practical", "tools",
 ];
 
 /// Code in the promises that names nothing: forms of names, and words of the language.
