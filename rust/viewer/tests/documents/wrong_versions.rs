@@ -1,4 +1,4 @@
-//! The wrong versions: files of a crate's `must-fail`, which the gate tries, and of `must-fail/more`, which `./wrong-versions` tries too.
+//! The wrong versions: files of a crate's `must-fail`, which the gate tries; one in a folder `more` below it would not be tried.
 
 use std::collections::BTreeMap;
 
