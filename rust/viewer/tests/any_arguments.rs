@@ -29,7 +29,10 @@ fn uncalled<'a>(calls: &[&'a str], caller: &str) -> Vec<&'a str> {
 
 #[test]
 fn no_exported_call_requires_anything() {
-    assert!(requirements(&source("bozhtagul")).is_empty(), "{:?}", requirements(&source("bozhtagul")));
+    for calls in [source("bozhtagul"), source("bozhtagul_c")] {
+        assert_eq!(exported(&calls).len(), 10);
+        assert!(requirements(&calls).is_empty(), "{:?}", requirements(&calls));
+    }
 }
 
 #[test]
