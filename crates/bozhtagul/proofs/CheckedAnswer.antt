@@ -19,74 +19,33 @@ use Rattle.model.proofs.Verdicts.{true_verdict-holds}
 use Rattle.model.proofs.Soundness.{soundness}
 use Rattle.model.proofs.CheckCall.{check_complete, output-listed, list_length}
 use Rattle.model.proofs.RowNumbers.{number-above, run_into_numbered}
-use Rattle.question.specs.declared.TimeKey.{TimeKey}
-use Rattle.proof_reader.specs.declared.Stop as code
-use Rattle.proof_reader.specs.declared.Stop.TheVariants.{NoEntity, NotYet, NoneSoLate}
 use Rattle.proof_reader.specs.Walks.{stop_of}
-use Rattle.checker.specs.declared.Checking.{Checking}
-use Rattle.checker.specs.declared.Checking.TheVariants.{Accepted, Refused}
-use Rattle.checker.specs.declared.Verdict as declared
-use Rattle.checker.specs.declared.Verdict.TheVariants.{NotFound, Found, Listed}
+use Rattle.checker.specs.declared.Verdict as code
+use Rattle.checker.specs.declared.Verdict.TheVariants.{NotFound}
 use Rattle.checker.specs.declared.Bounds.{Bounds}
 use Rattle.checker.specs.Runs.{declared_verdict, checking_of, bounds_of}
 use Rattle.bozhtagul.specs.declared.Checked.{Checked}
 use Rattle.bozhtagul.specs.declared.Part.{Part}
-use Rattle.bozhtagul.specs.Results.{checked, bounds}
+use Rattle.bozhtagul.specs.Results.{numbered, checked_by, checked, bounds}
 use Rattle.bozhtagul.specs.Demand3.{Asked, Exact, Sound, list_width, Complete}
 
 -- ---- plain numbers
 
-unfoldable pub stop_numbers : code.Stop → Checked
-stop_numbers NoEntity = record { number = 0; position = 0; verdict = 1; time = 0; count = 0 }
-stop_numbers (NotYet first) = record { number = 0; position = 0; verdict = 2; time = first.0; count = 0 }
-stop_numbers (NoneSoLate last) = record { number = 0; position = 0; verdict = 4; time = last.0; count = 0 }
-
-by_stop : (s : Stop) → stop_numbers (stop_of s) ≡ checked (ok (Verdict.not_found s))
-unfolding stop_numbers stop_of checked
+by_stop : (s : Stop) → numbered (NotFound (stop_of s)) ≡ checked (ok (Verdict.not_found s))
+unfolding numbered stop_of checked
 by_stop no_entity = refl
 by_stop (not_yet first) = refl
 by_stop (none_so_late last) = refl
 
-pub stop_agrees : (a b : code.Stop) → a ≡ b → (s : Stop) → a ≡ stop_of s → stop_numbers b ≡ checked (ok (Verdict.not_found s))
-stop_agrees a b q s e = ap stop_numbers (sym q ∙ e) ∙ by_stop s
+by_check : (m : Result Verdict) → checked_by (checking_of m) ≡ checked m
+unfolding checked_by checking_of declared_verdict numbered checked
+by_check (ok (Verdict.not_found s)) = by_stop s
+by_check (ok (Verdict.found t n)) = refl
+by_check (ok (Verdict.listed vs)) = refl
+by_check (refuse n p) = refl
 
--- of a verdict without a version, what holds of the stop's numbers
-pub where_not_found : (P : Verdict → Type 0) (w : declared.Verdict) (a : code.Stop) → w ≡ NotFound a → ((s : Stop) → a ≡ stop_of s → P (Verdict.not_found s))
-    → (v : Verdict) → w ≡ declared_verdict v → P v
-unfolding declared_verdict
-where_not_found P w a q f (Verdict.not_found s) e = f s cc
-where_not_found P w a q f (Verdict.found t n) e = absurd (let z : ◌≡◌ {A = ℕ} 0 1 = cc in omega arith)
-where_not_found P w a q f (Verdict.listed vs) e = absurd (let z : ◌≡◌ {A = ℕ} 0 1 = cc in omega arith)
-
-pub found_agrees : (w : declared.Verdict) (r : Checked) (time : TimeKey) (n : ℕ) → w ≡ Found time n → r ≡ record { number = 0; position = 0; verdict = 3; time = time.0; count = n }
-    → (v : Verdict) → w ≡ declared_verdict v → r ≡ checked (ok v)
-unfolding declared_verdict checked
-found_agrees w r time n q f (Verdict.not_found s) e = absurd (let z : ◌≡◌ {A = ℕ} 0 1 = cc in omega arith)
-found_agrees w r time n q f (Verdict.found t m) e =
-    let same : (time ≡ record { 0 = t }) × (n ≡ m) = (cc, cc) in
-    f ∙ ap₂ (λ (x : TimeKey) (y : ℕ). record { number = 0; position = 0; verdict = 3; time = x.0; count = y }) same.0 same.1
-found_agrees w r time n q f (Verdict.listed vs) e = absurd (let z : ◌≡◌ {A = ℕ} 0 1 = cc in omega arith)
-
-pub listed_agrees : (w : declared.Verdict) (r : Checked) (n : ℕ) → w ≡ Listed n → r ≡ record { number = 0; position = 0; verdict = 5; time = 0; count = n }
-    → (v : Verdict) → w ≡ declared_verdict v → r ≡ checked (ok v)
-unfolding declared_verdict checked
-listed_agrees w r n q f (Verdict.not_found s) e = absurd (let z : ◌≡◌ {A = ℕ} 0 1 = cc in omega arith)
-listed_agrees w r n q f (Verdict.found t m) e = absurd (let z : ◌≡◌ {A = ℕ} 0 1 = cc in omega arith)
-listed_agrees w r n q f (Verdict.listed vs) e =
-    let same : n ≡ length vs = cc in
-    f ∙ ap (λ (y : ℕ). record { number = 0; position = 0; verdict = 5; time = 0; count = y }) same
-
--- by what the check answered
-module _ (k : Checking) (r : Checked) where
-  pub accepted_agrees : (w : declared.Verdict) → ((v : Verdict) → w ≡ declared_verdict v → r ≡ checked (ok v)) → k ≡ Accepted w → (m : Result Verdict) → k ≡ checking_of m → r ≡ checked m
-  unfolding checking_of
-  accepted_agrees w f q (ok v) e = f v cc
-  accepted_agrees w f q (refuse n p) e = absurd (let z : ◌≡◌ {A = ℕ} 0 1 = cc in omega arith)
-
-  pub refused_agrees : (n p : ℕ) → r ≡ record { number = n; position = p; verdict = 0; time = 0; count = 0 } → k ≡ Refused n p → (m : Result Verdict) → k ≡ checking_of m → r ≡ checked m
-  unfolding checking_of checked
-  refused_agrees n p f q (ok v) e = absurd (let z : ◌≡◌ {A = ℕ} 0 1 = cc in omega arith)
-  refused_agrees n p f q (refuse a b) e = f ∙ let same : (n ≡ a) × (p ≡ b) = (cc, cc) in ap₂ (λ (x y : ℕ). record { number = x; position = y; verdict = 0; time = 0; count = 0 }) same.0 same.1
+pub check_agrees : (m : Result Verdict) (c : Result code.Verdict) → c ≡ checking_of m → (r : Checked) → r ≡ checked_by c → r ≡ checked m
+check_agrees m c e r f = f ∙ ap checked_by e ∙ by_check m
 
 pub bounds_agree : (m : Result Run) (b : Bounds) → b ≡ bounds_of m → ◌≡◌ {A = Part} (record { start = b.start; length = b.length }) (bounds m)
 unfolding bounds_of bounds
@@ -173,14 +132,6 @@ module _ (direction s t t2 : ℕ) (commitment x out work out' : Bytes) (r : Chec
         returned = e ∙ ap checked k;
         listed = o ∙ output-listed direction s t t2 commitment x out work b.0 b.1 ∙ ap (λ (w : Verdict). written out 0 (list_string w)) b.2;
       }
-
--- where the check refuses, the answer was not the defined one with enough work area and output, whatever the call returns
-module _ (direction s t t2 : ℕ) (commitment x out work : Bytes) (k : Checking) (e : k ≡ checking_of (check_call direction s t t2 commitment x out work).result) where
-  pub complete_unaccepted : (n p : ℕ) (out' : Bytes) (r : Checked) → k ≡ Refused n p → Complete direction s t t2 commitment x work out out' r
-  unfolding checking_of
-  complete_unaccepted n p out' r q a is roomy wide =
-      let f = e ∙ ap checking_of (defined_accepted direction s t t2 commitment x out work a is roomy wide) in
-      absurd (let z : ◌≡◌ {A = ℕ} 0 1 = cc in omega arith)
 
 -- what both clauses say of the output that is defined, they say of the one left
 pub left_so : (P : Bytes → Type 0) (out' out'' : Bytes) → out' ≡ out'' → P out'' → P out'

@@ -23,35 +23,38 @@ use Rattle.model.proofs.Outcomes.{bind_eq, pass}
 use Rattle.model.proofs.RowNumbers.{number-above, offer_numbered}
 use Rattle.model.proofs.Recording.{log_taken-reads}
 use Rattle.model.proofs.LogK.{computed, record_bytes}
-use Rattle.outcome.specs.declared.Writing.{Writing}
-use Rattle.outcome.specs.declared.Writing.TheVariants.{Written as Put, Refused as Unwritten}
-use Rattle.outcome.specs.Outcomes.{given}
+use Rattle.std.specs.Prelude as std
+use Rattle.std.specs.Prelude.{Ok, Err}
+use Rattle.outcome.specs.declared.Refusal.{Refusal}
+use Rattle.outcome.specs.Outcomes.{told}
 use Rattle.recorder.specs.Holding.{Holds}
 use Rattle.recorder.proofs.Starting.{some_memory_holds}
 use Rattle.recorder.proofs.Places.{holds-places}
 use Rattle.recorder.proofs.Anchors.{two_births, TwoBirths, two_births_held}
 use Rattle.recorder.proofs.Reach.{reach}
-use Rattle.recorder_calls.specs.declared.Answered.{Answered}
-use Rattle.recorder_calls.specs.declared.Answered.TheVariants.{Done, Refused}
 use Rattle.recorder_calls.specs.Calling.{answered, started, Offered, Committed}
 use Rattle.recorder_calls.proofs.Starting.{started-size, started-holds}
 use Rattle.bozhtagul.specs.declared.Outcome.{Outcome}
 use Rattle.bozhtagul.specs.Results.{outcome, outcome_of}
-use Rattle.bozhtagul.specs.Recorders.{plain, RecorderStarted, RecordOffered, CommitmentAsked, After, fresh, next}
+use Rattle.bozhtagul.proofs.Plain.{alone_agree}
+use Rattle.bozhtagul.specs.Recorders.{RecorderStarted, RecordOffered, CommitmentAsked, After, fresh, next}
 
 -- ---- one call
 
-by_answer : {A : Type 0} (o : Result A) → plain (answered o) ≡ outcome_of o
-unfolding plain answered outcome_of outcome ◌>>=◌
+by_answer : {A : Type 0} (o : Result A) → outcome_of (answered o) ≡ outcome_of o
+unfolding answered outcome_of outcome ◌>>=◌
 by_answer (ok a) = refl
 by_answer (refuse n p) = refl
 
-module _ (m m' : Bytes) (a : Answered) (e : a ≡ answered (start_rows (length m))) (f : m' ≡ started m) where
-  result_is : plain a ≡ outcome_of (start_rows (length m))
-  result_is = ap plain e ∙ by_answer (start_rows (length m))
+module _ (m m' : Bytes) (a : std.Result (Unit {0}) Refusal) (e : told a ≡ start_rows (length m)) (f : m' ≡ started m) where
+  abbrev plain : Outcome
+  plain = outcome_of (told a)
+
+  result_is : plain ≡ outcome_of (start_rows (length m))
+  result_is = ap outcome_of e
 
   -- by whether the memory has 512 bytes
-  number_by : (b : Bool) → leb unit (length m) ≡ b → (plain a).number ≡ (outcome_of (need b 26 0)).number
+  number_by : (b : Bool) → leb unit (length m) ≡ b → plain.number ≡ (outcome_of (need b 26 0)).number
   unfolding start_rows
   number_by b q = ap (λ (r : Outcome). r.number) (result_is ∙ ap (λ (z : Bool). outcome_of (need z 26 0)) q)
 
@@ -63,51 +66,47 @@ module _ (m m' : Bytes) (a : Answered) (e : a ≡ answered (start_rows (length m
   size_by true q = ap length f ∙ started-size m (leb-true unit (length m) q)
   size_by false q = ap length (memory_by false q)
 
-  kept_by : (b : Bool) → leb unit (length m) ≡ b → 0 < (plain a).number → m' ≡ m
+  kept_by : (b : Bool) → leb unit (length m) ≡ b → 0 < plain.number → m' ≡ m
   unfolding outcome_of outcome need ◌>>=◌
   kept_by true q h = absurd (not-suc-le-zero (subst (λ (z : ℕ). 0 < z) (number_by true q) h))
   kept_by false q h = memory_by false q
 
-  holds_by : (b : Bool) → leb unit (length m) ≡ b → (plain a).number ≡ 0 → Holds m' []
+  holds_by : (b : Bool) → leb unit (length m) ≡ b → plain.number ≡ 0 → Holds m' []
   unfolding outcome_of outcome need ◌>>=◌
   holds_by true q h = subst (λ (z : Bytes). Holds z []) (sym f) (started-holds m (leb-true unit (length m) q))
   holds_by false q h = absurd (let z : ⊥ = omega (arith, h, number_by false q) in z)
 
-  pub start_plain : (r : Outcome) → r ≡ plain a → RecorderStarted m m' r
+  pub start_plain : (r : Outcome) → r ≡ plain → RecorderStarted m m' r
   start_plain r q =
       let b = leb unit (length m) in
       subst (RecorderStarted m m') (sym q) (record { size = size_by b refl; result = result_is; memory = f; kept = kept_by b refl; holds = holds_by b refl })
 
--- a row leaves the memory
-row_kept : (m m' : Bytes) (a : Answered) → ((n p : ℕ) → a ≡ Refused n p → (0 < n) × (m' ≡ m)) → 0 < (plain a).number → m' ≡ m
-unfolding plain
-row_kept m m' Done k h = absurd (not-suc-le-zero h)
-row_kept m m' (Refused n p) k h = (k n p refl).1
+-- a row leaves what was lent
+row_kept : {A : Type 0} (x x' : Bytes) (a : std.Result A Refusal) → ((e : Refusal) → a ≡ Err e → x' ≡ x) → 0 < (outcome_of (told a)).number → x' ≡ x
+unfolding outcome_of outcome ◌>>=◌
+row_kept x x' (Ok v) k h = absurd (not-suc-le-zero h)
+row_kept x x' (Err e) k h = k e refl
 
-pub take-plain : (x m m' : Bytes) (a : Answered) → Offered x m m' a → (r : Outcome) → r ≡ plain a → RecordOffered x m m' r
+module _ {A : Type 0} (a : std.Result A Refusal) (r : Outcome) (q : r ≡ outcome_of (told a)) where
+  -- where a row turned the call away
+  turned : 0 < r.number → 0 < (outcome_of (told a)).number
+  turned h = subst (λ (z : Outcome). 0 < z.number) q h
+
+pub take-plain : (x m m' : Bytes) (a : std.Result (Unit {0}) Refusal) → Offered x m m' a → (r : Outcome) → r ≡ outcome_of (told a) → RecordOffered x m m' r
 take-plain x m m' a o r q =
     record {
       size = o.size;
-      kept = λ h. row_kept m m' a o.kept (subst (λ (z : Outcome). 0 < z.number) q h);
-      result = λ rs h. q ∙ ap plain (o.result rs h) ∙ by_answer (offer (length m) rs x);
+      kept = λ h. row_kept m m' a o.kept (turned a r q h);
+      result = λ rs h. q ∙ ap outcome_of (o.result rs h) ∙ by_answer (offer (length m) rs x);
       holds = o.memory;
     }
 
--- a row leaves the output
-output-kept : (out out' : Bytes) (w : Writing) (r : Outcome) → ((y : Result Bytes) → w ≡ given y → r ≡ outcome_of y)
-    → ((n p : ℕ) → w ≡ Unwritten n p → (0 < n) × (out' ≡ out)) → 0 < r.number → out' ≡ out
-unfolding given outcome_of outcome ◌>>=◌
-output-kept out out' (Put n) r g k h =
-    absurd (not-suc-le-zero (subst (λ (z : Outcome). 0 < z.number) (g (ok (replicate n 0)) (ap Put (sym (length-replicate {A = ℕ} n 0)))) h))
-output-kept out out' (Unwritten n p) r g k h = (k n p refl).1
-
--- by what the call that writes answers, whose numbers are those of any result that gives it
-pub commitment-plain : (m out out' : Bytes) (w : Writing) (r : Outcome) → ((y : Result Bytes) → w ≡ given y → r ≡ outcome_of y) → Committed m out out' w → CommitmentAsked m out out' r
-commitment-plain m out out' w r f c =
+pub commitment-plain : (m out out' : Bytes) (w : std.Result ℕ Refusal) → Committed m out out' w → (r : Outcome) → r ≡ outcome_of (told w) → CommitmentAsked m out out' r
+commitment-plain m out out' w c r q =
     record {
       size = c.size;
-      kept = output-kept out out' w r f c.kept;
-      result = λ rs h. f (recorder_commitment rs out) (c.gives rs h).result;
+      kept = λ h. row_kept out out' w c.kept (turned w r q h);
+      result = λ rs h. alone_agree (recorder_commitment rs out) w (c.gives rs h).result r q;
       output = λ rs h. (c.gives rs h).output;
     }
 
@@ -199,8 +198,10 @@ module _ {n : ℕ} {xs : List Bytes} {m : Bytes} (a : After n xs m) where
 
 -- the least memory that can be started, all zero before, after a start
 pub after_a_start : After 512 [] (started (replicate 512 0))
-unfolding start_rows need answered plain
-after_a_start = fresh (replicate 512 0) (started (replicate 512 0)) (plain Done) (length-replicate {A = ℕ} 512 0) (start_plain (replicate 512 0) _ Done refl refl _ refl) refl
+unfolding start_rows need outcome_of outcome ◌>>=◌
+after_a_start =
+    fresh (replicate 512 0) (started (replicate 512 0)) (record { number = 0; position = 0 }) (length-replicate {A = ℕ} 512 0)
+    (start_plain (replicate 512 0) _ (Ok tt) refl refl _ refl) refl
 
 -- a start below 512 bytes, which leaves what it found
 pub short-start : (m m' : Bytes) (r : Outcome) → length m ≡ 511 → RecorderStarted m m' r → (r ≡ record { number = 26; position = 0 }) × (m' ≡ m)

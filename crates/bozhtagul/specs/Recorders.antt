@@ -7,14 +7,8 @@ use Rattle.model.specs.Calls.{output_after}
 use Rattle.model.specs.Recorder.{start_rows, offer, taken, recorder_commitment}
 use Rattle.recorder.specs.Holding.{Holds}
 use Rattle.recorder_calls.specs.Calling.{started}
-use Rattle.recorder_calls.specs.declared.Answered.{Answered}
-use Rattle.recorder_calls.specs.declared.Answered.TheVariants.{Done, Refused}
 use Rattle.bozhtagul.specs.declared.Outcome.{Outcome}
 use Rattle.bozhtagul.specs.Results.{outcome_of}
-
-unfoldable pub plain : Answered → Outcome
-plain Done = record { number = 0; position = 0 }
-plain (Refused n p) = record { number = n; position = p }
 
 -- a fresh start of the memory m: it is m' then
 pub record RecorderStarted (m m' : Bytes) (r : Outcome) : Type 0 where

@@ -3,24 +3,18 @@
 
 ghost use Rattle.std.specs.Prelude.{◌≡◌, ◌+◌, ◌≤◌, length};
 ghost use Rattle.fields.specs.Fields.{part};
-ghost use Rattle.model.specs.Result.{Result, ok};
-ghost use Rattle.model.specs.Numbers.{Bytes};
 ghost use Rattle.model.specs.CheckRows.{run};
-ghost use Rattle.model.specs.Calls.{hash_call, log_call, listing_call, commitment_call, answer_call, check_call, records_call};
-ghost use Rattle.model.specs.Question as model;
-ghost use Rattle.outcome.specs.Outcomes.{given};
-ghost use Rattle.proof_reader.specs.Walks.{stop_of};
-ghost use Rattle.checker.specs.Runs.{declared_verdict};
-ghost use Rattle.bozhtagul.specs.Results.{outcome, written, outcome_of, written_of, checked, bounds};
+ghost use Rattle.model.specs.Numbers.{H};
+ghost use Rattle.model.specs.Calls.{fitting, hash_call, log_call, listing_call, commitment_call, answer_call, check_call, records_call};
+ghost use Rattle.outcome.specs.Outcomes.{told, Gives};
+ghost use Rattle.bozhtagul.specs.Results.{outcome, outcome_of, written, numbered, checked_by, checked, bounds};
 ghost use Rattle.bozhtagul.specs.Demand3.{Sound, Complete};
-ghost use Rattle.bozhtagul.specs.Recorders.{plain, RecorderStarted, RecordOffered, CommitmentAsked};
+ghost use Rattle.bozhtagul.specs.Recorders.{RecorderStarted, RecordOffered, CommitmentAsked};
 
-use checker::{Checking, Verdict};
-use log_reader::Reading;
-use outcome::Writing;
+use checker::Verdict;
+use outcome::{Refusal, Row};
 use proof_reader::Stop;
 use question::{EntityKey, TimeKey};
-use recorder_calls::Answered;
 use strings::DIGEST_WIDTH;
 
 // The number of the row that turned a call away, or 0, and its position.
@@ -42,6 +36,7 @@ pub struct Written {
 
 // The same, and the verdict: 0 none; 1 no entity; 2 not yet, with the time of the entity's first version; 3 found, with the version's time
 // and the number of the trace's records; 4 none so late, with the time of the entity's last version; 5 listed, with the number of versions.
+// Numbers, and no enum: C reads them.
 #[repr(C)]
 #[derive(Clone, Copy)]
 pub struct Checked {
@@ -63,19 +58,16 @@ pub struct Part {
 fn row(number: u64, position: u64) -> Outcome
     ensures { result ≡ record { number = number; position = position } }
 {
-    Outcome {
-        number: number,
-        position: position,
-    }
+    Outcome { number, position }
 }
 
 fn row_or_length(number: u64, position: u64, length: u64) -> Written
     ensures { result ≡ record { number = number; position = position; length = length } }
 {
     Written {
-        number: number,
-        position: position,
-        length: length,
+        number,
+        position,
+        length,
     }
 }
 
@@ -83,64 +75,87 @@ fn row_or_verdict(number: u64, position: u64, verdict: u64, time: u64, count: u6
     ensures { result ≡ record { number = number; position = position; verdict = verdict; time = time; count = count } }
 {
     Checked {
-        number: number,
-        position: position,
-        verdict: verdict,
-        time: time,
-        count: count,
+        number,
+        position,
+        verdict,
+        time,
+        count,
     }
 }
 
-// What a call that writes answers, as plain numbers: with the length, ...
-fn as_written(writing: Writing) -> Written
-    ensures { (m : Result Bytes) → writing ≡ given m → result ≡ written_of m }
-{
-    match writing {
-        Writing::Written { length } => row_or_length(0, 0, length as u64),
-        Writing::Refused { number, position } => row_or_length(number, position as u64, 0),
+// What any call answers, as plain numbers: without a length, ...
+impl<T: Copy> From<Result<T, Refusal>> for Outcome {
+    ghost from_gives = { λ answer outcome. outcome ≡ outcome_of (told answer) };
+
+    fn from(answer: Result<T, Refusal>) -> Outcome {
+        match answer {
+            Ok(_) => row(0, 0),
+            Err(refusal) => row(u64::from(refusal.row), refusal.position as u64),
+        }
     }
 }
 
-// ... and without it.
-fn as_outcome(writing: Writing) -> Outcome
-    ensures { (m : Result Bytes) → writing ≡ given m → result ≡ outcome_of m }
-{
-    match writing {
-        Writing::Written { length } => row(0, 0),
-        Writing::Refused { number, position } => row(number, position as u64),
+// ... and with it.
+impl From<Result<usize, Refusal>> for Written {
+    ghost from_gives = { λ answer numbers. numbers ≡ written (told answer) };
+
+    fn from(answer: Result<usize, Refusal>) -> Written {
+        match answer {
+            Ok(length) => row_or_length(0, 0, length as u64),
+            Err(refusal) => row_or_length(u64::from(refusal.row), refusal.position as u64, 0),
+        }
     }
 }
 
-// What a call answers that writes to no output, as plain numbers.
-fn as_row(answered: Answered) -> Outcome
-    ensures { result ≡ plain answered }
-{
-    match answered {
-        Answered::Done => row(0, 0),
-        Answered::Refused { number, position } => row(number, position as u64),
+// A verdict as plain numbers, ...
+impl From<Verdict> for Checked {
+    ghost from_gives = { λ verdict checked. checked ≡ numbered verdict };
+
+    fn from(verdict: Verdict) -> Checked {
+        match verdict {
+            Verdict::NotFound { stop } => match stop {
+                Stop::NoEntity => row_or_verdict(0, 0, 1, 0, 0),
+                Stop::NotYet { first } => row_or_verdict(0, 0, 2, first.0, 0),
+                Stop::NoneSoLate { last } => row_or_verdict(0, 0, 4, last.0, 0),
+            },
+            Verdict::Found { time, count } => row_or_verdict(0, 0, 3, time.0, count as u64),
+            Verdict::Listed { count } => row_or_verdict(0, 0, 5, 0, count as u64),
+        }
     }
 }
 
-// A verdict as plain numbers, where no version is found, ...
-fn as_stopped(stop: Stop) -> Checked
-    ensures { (s : model.Stop) → stop ≡ stop_of s → result ≡ checked (ok (model.Verdict.not_found s)) }
-{
-    match stop {
-        Stop::NoEntity => row_or_verdict(0, 0, 1, 0, 0),
-        Stop::NotYet { first } => row_or_verdict(0, 0, 2, first.0, 0),
-        Stop::NoneSoLate { last } => row_or_verdict(0, 0, 4, last.0, 0),
+// ... and what the check answers.
+impl From<Result<Verdict, Refusal>> for Checked {
+    ghost from_gives = { λ answer checked. checked ≡ checked_by (told answer) };
+
+    fn from(answer: Result<Verdict, Refusal>) -> Checked {
+        match answer {
+            Ok(verdict) => Checked::from(verdict),
+            Err(refusal) => {
+                row_or_verdict(u64::from(refusal.row), refusal.position as u64, 0, 0, 0)
+            }
+        }
     }
 }
 
-// ... and any verdict.
-fn as_checked(verdict: Verdict) -> Checked
-    ensures { (v : model.Verdict) → verdict ≡ declared_verdict v → result ≡ checked (ok v) }
+// Writes the SHA-256 of a message to the front of `out`, and gives its length: 13.
+fn put_hash(message: &[u8], out: &mut [u8]) -> Result<usize, Refusal>
+    ensures { Gives (fitting out.old (H message.now)) out.old out.new result }
 {
-    match verdict {
-        Verdict::NotFound { stop } => as_stopped(stop),
-        Verdict::Found { time, count } => row_or_verdict(0, 0, 3, time.0, count as u64),
-        Verdict::Listed { count } => row_or_verdict(0, 0, 5, 0, count as u64),
+    if out.len() < DIGEST_WIDTH {
+        return Err(Row::OutputShort.at(0));
     }
+    let digest = sha256::hash(message);
+    fields::copy(out, 0, &digest, 0, DIGEST_WIDTH);
+    Ok(DIGEST_WIDTH)
+}
+
+// The number of records of a log.
+fn count_records(log: &[u8]) -> Result<usize, Refusal>
+    ensures { told result ≡ log_call log.now }
+{
+    let sound = log_reader::read(log)?;
+    Ok(sound.records)
 }
 
 // Writes the SHA-256 of a message to the front of `out`.
@@ -149,12 +164,7 @@ pub extern "C" fn bozhtagul_hash(message: &[u8], out: &mut [u8]) -> Outcome
     ensures result { result ≡ outcome (hash_call message.now out.old).result }
     ensures output { out.new ≡ (hash_call message.now out.old).output }
 {
-    if out.len() < DIGEST_WIDTH {
-        return row(13, 0);
-    }
-    let digest = sha256::hash(message);
-    fields::copy(out, 0, &digest, 0, DIGEST_WIDTH);
-    row(0, 0)
+    Outcome::from(put_hash(message, out))
 }
 
 // Reads a log; its length is its number of records.
@@ -162,10 +172,7 @@ pub extern "C" fn bozhtagul_hash(message: &[u8], out: &mut [u8]) -> Outcome
 pub extern "C" fn bozhtagul_log(log: &[u8]) -> Written
     ensures { result ≡ written (log_call log.now) }
 {
-    match log_reader::read(log) {
-        Reading::Sound { records, last } => row_or_length(0, 0, records as u64),
-        Reading::Refused { number, position } => row_or_length(number, position as u64, 0),
-    }
+    Written::from(count_records(log))
 }
 
 // Writes what the listing program prints for an input to the front of `out`.
@@ -174,7 +181,7 @@ pub extern "C" fn bozhtagul_listing(input: &[u8], out: &mut [u8]) -> Written
     ensures result { result ≡ written (listing_call input.now out.old).result }
     ensures output { out.new ≡ (listing_call input.now out.old).output }
 {
-    as_written(listing::list(input, out))
+    Written::from(listing::list(input, out))
 }
 
 // Writes a log's commitment to the front of `out`. The work area takes 128 bytes a record and is zero afterwards.
@@ -184,7 +191,7 @@ pub extern "C" fn bozhtagul_commitment(log: &[u8], work: &mut [u8], out: &mut [u
     ensures output { out.new ≡ (commitment_call log.now out.old work.old).output }
     ensures cleared { work.new ≡ (commitment_call log.now out.old work.old).work }
 {
-    as_outcome(host::commitment(log, work, out))
+    Outcome::from(host::commitment(log, work, out))
 }
 
 // Writes the answer to a question to the front of `out`. The work area takes 128 bytes a record and is zero afterwards. `until` is the
@@ -204,7 +211,7 @@ pub extern "C" fn bozhtagul_answer(
     ensures cleared { work.new ≡ (answer_call direction entity time until log.now out.old work.old).work }
 {
     let s = EntityKey(entity as u64);
-    as_written(host::answer(direction, s, TimeKey(time), TimeKey(until), log, work, out))
+    Written::from(host::answer(direction, s, TimeKey(time), TimeKey(until), log, work, out))
 }
 
 // Checks an answer, which may be any bytes, against a commitment. The work area takes 128 bytes for each record of the answer's trace and
@@ -230,10 +237,8 @@ pub extern "C" fn bozhtagul_check(
     let s = EntityKey(entity as u64);
     let from = TimeKey(time);
     let to = TimeKey(until);
-    match checker::check(direction, s, from, to, commitment, answer, work, out) {
-        Checking::Accepted { verdict } => as_checked(verdict),
-        Checking::Refused { number, position } => row_or_verdict(number, position as u64, 0, 0, 0),
-    }
+    let checking = checker::check(direction, s, from, to, commitment, answer, work, out);
+    Checked::from(checking)
 }
 
 // Where the checked records of an answer stand, without the trace header: 0 and 0 if there are none or the check refuses.
@@ -269,7 +274,7 @@ pub extern "C" fn bozhtagul_records(
 pub extern "C" fn bozhtagul_recorder_start(memory: &mut [u8]) -> Outcome
     ensures { RecorderStarted memory.old memory.new result }
 {
-    as_row(recorder_calls::start(memory))
+    Outcome::from(recorder_calls::start(memory))
 }
 
 // Offers a record to the recorder in a memory, which takes it or is left as it was.
@@ -277,7 +282,7 @@ pub extern "C" fn bozhtagul_recorder_start(memory: &mut [u8]) -> Outcome
 pub extern "C" fn bozhtagul_recorder_take(record: &[u8], memory: &mut [u8]) -> Outcome
     ensures { RecordOffered «record».now memory.old memory.new result }
 {
-    as_row(recorder_calls::take(record, memory))
+    Outcome::from(recorder_calls::take(record, memory))
 }
 
 // Writes the commitment of the records that the recorder in a memory has taken to the front of `out`.
@@ -285,5 +290,5 @@ pub extern "C" fn bozhtagul_recorder_take(record: &[u8], memory: &mut [u8]) -> O
 pub extern "C" fn bozhtagul_recorder_commitment(memory: &[u8], out: &mut [u8]) -> Outcome
     ensures { CommitmentAsked memory.now out.old out.new result }
 {
-    as_outcome(recorder_calls::commitment(memory, out))
+    Outcome::from(recorder_calls::commitment(memory, out))
 }

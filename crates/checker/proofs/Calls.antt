@@ -1,8 +1,13 @@
 -- The calls, by what is asked. Assumes nothing.
 use mathlib.Core.Path.{◌≡◌, refl, sym, ap, ◌∙◌, subst}
-use Prim.Native.Nat.{ℕ, ◌+◌, ◌-◌, ◌≤◌}
+use Prim.Native.Nat.{ℕ, ◌+◌, ◌-◌}
 use native.Mathlib.Omega.{arith}
 use lib.ListN.{length, take, drop}
+use Rattle.std.specs.Prelude.{Ok, Err}
+use Rattle.std.specs.Prelude as std
+use Rattle.outcome.specs.declared.Refusal.{Refusal}
+use Rattle.outcome.specs.Outcomes.{number_of, told}
+use Rattle.proof_reader.specs.Walks.{RefusedBy}
 use Rattle.fields.specs.Fields.{part}
 use Rattle.model.specs.Numbers.{Bytes}
 use Rattle.model.specs.Result.{Result, ok, refuse, ◌>>=◌}
@@ -15,17 +20,15 @@ use Rattle.model.proofs.Outcomes.{ok_inj, bind_ok, bind_eq, bind_refused}
 use Rattle.model.proofs.CheckCall.{lists-nothing}
 use Rattle.question.specs.declared.Question.{Question}
 use Rattle.question.specs.declared.SpanQuestion.{SpanQuestion}
-use Rattle.question.specs.declared.Asked.{Asked}
-use Rattle.question.specs.declared.Asked.TheVariants.{One, All, Reversed, Unknown}
+use Rattle.question.specs.declared.Query.{Query}
+use Rattle.question.specs.declared.Query.TheVariants.{One, All}
 use Rattle.question.specs.Directions.{question_of, span_of, AskedIs}
-use Rattle.question.proofs.Directions.{one_asks, all_asks, reversed-refused, unknown-refused}
-use Rattle.checker.specs.declared.Checking.{Checking}
-use Rattle.checker.specs.declared.Checking.TheVariants.{Refused}
+use Rattle.question.proofs.Directions.{query-asked, asking-refused}
+use Rattle.checker.specs.declared.Verdict as declared
 use Rattle.checker.specs.declared.Bounds.{Bounds}
 use Rattle.checker.specs.declared.Run.{Run}
-use Rattle.checker.specs.Runs.{checking_of, bounds_of, RunIs, BoundsAre, fitted, Checks}
-use Rattle.checker.proofs.Running.{bounds}
-use Rattle.checker.proofs.Listing.{turned, idle}
+use Rattle.checker.specs.Runs.{checking_of, bounds, bounds_of, run_of, RunIs, bounds_told, BoundsAre, fitted, Checks}
+use Rattle.checker.proofs.Listing.{turned, idle, run-verdict}
 
 -- ---- a run without records
 
@@ -44,70 +47,97 @@ end_none size p (SearchEnd.not_found s) = here-none _ p
 end_none size p (SearchEnd.found l) = here-none _ p
 end_none size p (SearchEnd.listed ls) = here-none _ p
 
+-- where the records of a run stand
+run-records : (m : Result Accepted) (r : std.Result Run Refusal) → told r ≡ run_of m → (b : std.Result Bounds Refusal) → told b ≡ (told r >>= λ run. ok run.records) → bounds_told b ≡ bounds_of m
+unfolding run_of bounds_of ◌>>=◌
+run-records m r e b q = told-bounds b ∙ ap there (q ∙ ap (λ (x : Result Run). x >>= λ run. ok run.records) e) ∙ go m
+  where
+    there : Result Bounds → Bounds
+    there (ok x) = x
+    there (refuse n p) = bounds 0 0
+
+    told-bounds : (b : std.Result Bounds Refusal) → bounds_told b ≡ there (told b)
+    told-bounds (Ok x) = refl
+    told-bounds (Err e) = refl
+
+    go : (m : Result Accepted) → there (run_of m >>= λ run. ok run.records) ≡ bounds_of m
+    go (ok a) = refl
+    go (refuse n p) = refl
+
 -- ---- by what is asked
 
-module _ (direction s t t2 : ℕ) (a : Asked) (h : AskedIs direction s t t2 a) (commitment answer : Bytes) (size : ℕ) where
+module _ (direction s t t2 : ℕ) (commitment answer : Bytes) (size : ℕ) where
   abbrev this_run : Result Accepted
   this_run = run direction s t t2 commitment answer size
 
-  unknown-run : a ≡ Unknown → this_run ≡ refuse 11 0
+  run_refused : (e : Refusal) → AskedIs direction s t t2 (Err e) → RefusedBy this_run e
   unfolding run
-  unknown-run e = bind_refused _ _ 11 0 (unknown-refused direction s t t2 a h e)
-
-  reversed-run : a ≡ Reversed → this_run ≡ refuse 25 0
-  unfolding run
-  reversed-run e = bind_refused _ _ 25 0 (reversed-refused direction s t t2 a h e)
-
-  one-run : (q : Question) → a ≡ One q → this_run ≡ run_under 0x52 (one (question_of q)) commitment answer size
-  unfolding run
-  one-run q e = bind_eq _ _ _ (one_asks direction s t t2 a h q e)
-
-  all-run : (p : SpanQuestion) → a ≡ All p → this_run ≡ run_under 0x52 (all (span_of p)) commitment answer size
-  unfolding run
-  all-run p e = bind_eq _ _ _ (all_asks direction s t t2 a h p e)
+  run_refused e h = bind_refused _ _ (number_of e.row) e.position (asking-refused direction s t t2 (Err e) h e refl)
 
   module _ (out : Bytes) where
-    pub checks_unknown : a ≡ Unknown → (r : Checking) → r ≡ Refused 11 0 → Checks (verdict_of this_run) out out r
+    pub checks_refused : (e : Refusal) → AskedIs direction s t t2 (Err e) → Checks (verdict_of this_run) out out (Err e)
     unfolding verdict_of ◌>>=◌
-    checks_unknown e r q = turned _ out r 11 0 (ap verdict_of (unknown-run e)) q
+    checks_refused e h = turned _ out e (ap verdict_of (run_refused e h))
 
-    pub checks_reversed : a ≡ Reversed → (r : Checking) → r ≡ Refused 25 0 → Checks (verdict_of this_run) out out r
-    unfolding verdict_of ◌>>=◌
-    checks_reversed e r q = turned _ out r 25 0 (ap verdict_of (reversed-run e)) q
+  pub bounds_refused : (e : Refusal) → AskedIs direction s t t2 (Err e) → BoundsAre answer this_run (Err e)
+  unfolding bounds_of
+  bounds_refused e h = record { are = sym (ap bounds_of (run_refused e h)); within = omega arith }
 
-    pub checks_one : (q : Question) → a ≡ One q → (r : Run) → RunIs answer (run_under 0x52 (one (question_of q)) commitment answer size) r
-        → Checks (verdict_of this_run) out out r.checking
-    unfolding verdict_of
-    checks_one q e r i =
-        idle _ out _
-        (λ u k.
-        let b = bind_ok this_run _ k in
-        ap list_string (sym (ok_inj b.2)) ∙ lists-nothing direction s t t2 (question_of q) (one_asks direction s t t2 a h q e) commitment answer size b.0 b.1)
-        (i.checking_is ∙ ap (λ (m : Result Accepted). checking_of (verdict_of m)) (sym (one-run q e)))
+  module _ (query : Query) (h : AskedIs direction s t t2 (Ok query)) where
+    module _ (q : Question) (is : query ≡ One q) where
+      asks_one : question direction s t t2 ≡ ok (one (question_of q))
+      asks_one = query-asked direction s t t2 (Ok query) h (One q) (ap Ok is)
 
-    pub checks_all : (p : SpanQuestion) → a ≡ All p → (out' : Bytes) (r : Checking)
-        → ((size : ℕ) → Checks (verdict_of (run_under 0x52 (all (span_of p)) commitment answer size)) out out' r) → Checks (verdict_of this_run) out out' r
-    checks_all p e out' r f = subst (λ (m : Result Accepted). Checks (verdict_of m) out out' r) (sym (all-run p e)) (f size)
+      one-run : this_run ≡ run_under 0x52 (one (question_of q)) commitment answer size
+      unfolding run
+      one-run = bind_eq _ _ _ asks_one
 
-  module _ (b : Bounds) where
-    no_bounds : bounds_of this_run ≡ bounds 0 0 → b ≡ bounds 0 0 → BoundsAre answer this_run b
-    no_bounds e q = record { are = q ∙ sym e; within = subst (λ (z : Bounds). z.start + z.length ≤ length answer) (sym q) (omega arith) }
+      module _ (r : std.Result Run Refusal) (i : RunIs answer (run_under 0x52 (one (question_of q)) commitment answer size) r) where
+        run_is : told r ≡ run_of this_run
+        run_is = i.is ∙ ap run_of (sym one-run)
 
-    pub bounds-unknown : a ≡ Unknown → b ≡ bounds 0 0 → BoundsAre answer this_run b
-    unfolding bounds_of
-    bounds-unknown e q = no_bounds (ap bounds_of (unknown-run e)) q
+        checks_one : (out : Bytes) (c : std.Result declared.Verdict Refusal) → told c ≡ (told r >>= λ x. ok x.verdict) → Checks (verdict_of this_run) out out c
+        unfolding verdict_of
+        checks_one out c k =
+            idle _ out c
+            (λ u k.
+            let b = bind_ok this_run _ k in
+            ap list_string (sym (ok_inj b.2)) ∙ lists-nothing direction s t t2 (question_of q) asks_one commitment answer size b.0 b.1)
+            (k ∙ run-verdict this_run r run_is)
 
-    pub bounds-reversed : a ≡ Reversed → b ≡ bounds 0 0 → BoundsAre answer this_run b
-    unfolding bounds_of
-    bounds-reversed e q = no_bounds (ap bounds_of (reversed-run e)) q
+      module _ (out : Bytes) where
+        pub one-refused : (e : Refusal) → RunIs answer (run_under 0x52 (one (question_of q)) commitment answer size) (Err e) → Checks (verdict_of this_run) out out (Err e)
+        unfolding ◌>>=◌
+        one-refused e i = checks_one (Err e) i out (Err e) refl
 
-    pub bounds-all : (p : SpanQuestion) → a ≡ All p → b ≡ bounds 0 0 → BoundsAre answer this_run b
-    unfolding run_under
-    bounds-all p e q = no_bounds (ap bounds_of (all-run p e) ∙ none_after _ _ (λ _. none_after _ _ (λ r. end_none size r r.end))) q
+        pub one-accepted : (x : Run) → RunIs answer (run_under 0x52 (one (question_of q)) commitment answer size) (Ok x) → Checks (verdict_of this_run) out out (Ok x.verdict)
+        unfolding ◌>>=◌
+        one-accepted x i = checks_one (Ok x) i out (Ok x.verdict) refl
 
-  pub bounds-one : (q : Question) → a ≡ One q → (r : Run) → RunIs answer (run_under 0x52 (one (question_of q)) commitment answer size) r
-      → BoundsAre answer this_run (bounds r.start r.length)
-  bounds-one q e r i = record { are = i.bounds_are ∙ ap bounds_of (sym (one-run q e)); within = i.inside }
+      pub one_without : (e : Refusal) → RunIs answer (run_under 0x52 (one (question_of q)) commitment answer size) (Err e) → BoundsAre answer this_run (Err e)
+      unfolding ◌>>=◌
+      one_without e i = record { are = run-records this_run (Err e) (run_is (Err e) i) (Err e) refl; within = omega arith }
+
+      pub one-records : (x : Run) → RunIs answer (run_under 0x52 (one (question_of q)) commitment answer size) (Ok x) → BoundsAre answer this_run (Ok x.records)
+      unfolding ◌>>=◌
+      one-records x i = record { are = run-records this_run (Ok x) (run_is (Ok x) i) (Ok x.records) refl; within = i.inside }
+
+    module _ (p : SpanQuestion) (is : query ≡ All p) where
+      all-run : this_run ≡ run_under 0x52 (all (span_of p)) commitment answer size
+      unfolding run
+      all-run = bind_eq _ _ _ (query-asked direction s t t2 (Ok query) h (All p) (ap Ok is))
+
+      pub checks_all : (out out' : Bytes) (r : std.Result declared.Verdict Refusal)
+          → ((size : ℕ) → Checks (verdict_of (run_under 0x52 (all (span_of p)) commitment answer size)) out out' r) → Checks (verdict_of this_run) out out' r
+      checks_all out out' r f = subst (λ (m : Result Accepted). Checks (verdict_of m) out out' r) (sym all-run) (f size)
+
+      pub all_without : BoundsAre answer this_run (Ok (bounds 0 0))
+      unfolding run_under
+      all_without =
+          record {
+            are = sym (ap bounds_of all-run ∙ none_after _ _ (λ _. none_after _ _ (λ r. end_none size r r.end)));
+            within = omega arith;
+          }
 
 -- ---- the calls
 
@@ -127,12 +157,12 @@ unfolding verdict_of ◌>>=◌
 by_verdict (ok a) = refl
 by_verdict (refuse n p) = refl
 
-module _ (direction s t t2 : ℕ) (commitment answer out work out' : Bytes) (r : Checking) (C : Checks (verdict_of (run direction s t t2 commitment answer (length work))) out out' r) where
+module _ (direction s t t2 : ℕ) (commitment answer out work out' : Bytes) (r : std.Result declared.Verdict Refusal) (C : Checks (verdict_of (run direction s t t2 commitment answer (length work))) out out' r) where
   into : verdict_of (run_into direction s t t2 commitment answer (length work) (length out)) ≡ fitted (length out) (verdict_of (run direction s t t2 commitment answer (length work)))
   unfolding run_into
   into = fitted-run (length out) (run direction s t t2 commitment answer (length work))
 
-  pub call_result : r ≡ checking_of (check_call direction s t t2 commitment answer out work).result
+  pub call_result : told r ≡ checking_of (check_call direction s t t2 commitment answer out work).result
   unfolding check_call
   call_result = C.result_is ∙ ap checking_of (sym into)
 

@@ -9,6 +9,12 @@ use native.Mathlib.Omega.{arith}
 use borrow.Author.Tests.{eq-eqb, ne_eqb}
 use lib.Dec.{eqb, lit≤}
 use lib.ListN.{length, get_or, take, drop, length-drop}
+use Rattle.std.specs.Prelude.{None, Some, Ok, Err}
+use Rattle.std.specs.Prelude as std
+use Rattle.outcome.specs.declared.Row.TheVariants.{BytesAfterEnd, RecordUnreferenced, FoundRecordDiffers, PathDigestDiffers}
+use Rattle.outcome.specs.declared.Refusal.{Refusal}
+use Rattle.outcome.specs.Outcomes.{told}
+use Rattle.proof_reader.proofs.Strings.{Made, refused-as}
 use Rattle.fields.specs.Fields.{part, field, equal}
 use Rattle.model.specs.Numbers.{Bytes}
 use Rattle.model.specs.Result.{Result, ◌>>=◌, need}
@@ -24,10 +30,8 @@ use Rattle.graph.proofs.Slots.{field-within}
 use Rattle.graph.proofs.Nodes.{length-nodes, node_at_nodes, nodes-kept, map_counting_at, map_counting_same}
 use Rattle.proof_reader.proofs.Strings.{incoming_at, outgoing_at}
 use Rattle.trace_reader.specs.Records.{place_in, places_in}
-use Rattle.checker.specs.declared.Rows.{Rows}
-use Rattle.checker.specs.declared.Rows.TheVariants.{Passed, Refused}
-use Rattle.checker.specs.Runs.{leaf_in_answer, rows_of, Lowest, digest_column, PathDigests, trace_in, found_rows}
-use Rattle.checker.proofs.Referring.{there, nowhere}
+use Rattle.checker.specs.Runs.{leaf_in_answer, Lowest, digest_column, PathDigests, trace_in, found_rows}
+use Rattle.checker.proofs.Referring.{there, below, nowhere}
 
 -- ---- of either way
 
@@ -69,20 +73,23 @@ place_at work start n i h = map_counting_at (place_in work start) 0 n i 0 h ∙ 
 
 -- ---- 23
 
-module _ (work answer : Bytes) (i leaf e t : ℕ) (le : e ≡ (leaf_in (take 77 (drop leaf answer))).entity) (lt : t ≡ (leaf_in (take 77 (drop leaf answer))).time) where
-  entity_test : (a : ℕ) (x : Bool) → a ≡ field 4 work (128 * i + 72) → x ≡ eqb a e → eqb (node_in work i).entity (leaf_in_answer answer leaf).entity ≡ x
-  unfolding leaf_in_answer node_in version
-  entity_test a x ea h = ap₂ eqb (sym ea) (sym le) ∙ sym h
+module _ (work answer : Bytes) (i leaf e : ℕ) (le : e ≡ (leaf_in (take 77 (drop leaf answer))).entity) (a : ℕ) (x : Bool) (ea : a ≡ field 4 work (128 * i + 72))
+    (h : x ≡ eqb a e)
+  where
+    entity_test : eqb (node_in work i).entity (leaf_in_answer answer leaf).entity ≡ x
+    unfolding leaf_in_answer node_in version
+    entity_test = ap₂ eqb (sym ea) (sym le) ∙ sym h
 
-  pub entity-same : (a b : ℕ) (x y : Bool) → a ≡ field 4 work (128 * i + 72) → b ≡ field 8 work (128 * i + 64) → x ≡ eqb a e → x ≡ true → y ≡ eqb b t
-      → y ≡ (eqb (node_in work i).entity (leaf_in_answer answer leaf).entity && eqb (node_in work i).time (leaf_in_answer answer leaf).time)
-  unfolding leaf_in_answer node_in version
-  entity-same a b x y ea eb h s g =
-      g ∙ ap₂ eqb eb lt ∙ sym (ap (λ (z : Bool). z && eqb (node_in work i).time (leaf_in_answer answer leaf).time) (entity_test a x ea h ∙ s))
+    abbrev Same : Bool → Type 0
+    Same y = y ≡ (eqb (node_in work i).entity (leaf_in_answer answer leaf).entity && eqb (node_in work i).time (leaf_in_answer answer leaf).time)
 
-  pub entity_differs : (a : ℕ) (x : Bool) → a ≡ field 4 work (128 * i + 72) → x ≡ eqb a e → x ≡ false
-      → false ≡ (eqb (node_in work i).entity (leaf_in_answer answer leaf).entity && eqb (node_in work i).time (leaf_in_answer answer leaf).time)
-  entity_differs a x ea h d = sym (ap (λ (z : Bool). z && eqb (node_in work i).time (leaf_in_answer answer leaf).time) (entity_test a x ea h ∙ d))
+    pub entity-same : x ≡ true → (t b : ℕ) (y : Bool) → t ≡ (leaf_in (take 77 (drop leaf answer))).time → b ≡ field 8 work (128 * i + 64) → y ≡ eqb b t → Same y
+    unfolding leaf_in_answer node_in version
+    entity-same s t b y lt eb g =
+        g ∙ ap₂ eqb eb lt ∙ sym (ap (λ (z : Bool). z && eqb (node_in work i).time (leaf_in_answer answer leaf).time) (entity_test ∙ s))
+
+    pub entity_differs : x ≡ false → Same x
+    entity_differs d = d ∙ sym (ap (λ (z : Bool). z && eqb (node_in work i).time (leaf_in_answer answer leaf).time) (entity_test ∙ d))
 
 -- ---- 24
 
@@ -130,18 +137,24 @@ module _ (way : Way) (l : Leaf) (work : Bytes) (start n i position : ℕ) (h : i
       ∙ ap₂ (λ (b : Bool) (k : ℕ). need b 23 k >>= λ _. need (equal (get_or (path_digests (way_of way) ns) i []) (leaf_digest (way_of way) l)) 24 k)
       (ap (λ (x : VersionNode). eqb x.entity l.entity && eqb x.time l.time) (node_at_nodes work n i h) ∙ sym ev) q
 
-  pub version_differs : v ≡ false → Refused 23 position ≡ rows_of (found_rows (way_of way) l (nodes_in work n) (places_in work start n))
-  unfolding at_place rows_of need ◌>>=◌
-  version_differs z = sym (ap rows_of (by_tests ∙ ap (λ (b : Bool). at_place b (equal (get_or (path_digests (way_of way) (nodes_in work n)) i []) (leaf_digest (way_of way) l)) i position) z))
+  abbrev Here : std.Result (Unit {0}) Refusal → Type 0
+  Here r = told r ≡ found_rows (way_of way) l (nodes_in work n) (places_in work start n)
+
+  pub version_differs : v ≡ false → (r : Refusal) → Made FoundRecordDiffers position r → Here (Err r)
+  unfolding at_place need ◌>>=◌
+  version_differs z r made =
+      sym
+      (refused-as _ FoundRecordDiffers position
+      (by_tests ∙ ap (λ (b : Bool). at_place b (equal (get_or (path_digests (way_of way) (nodes_in work n)) i []) (leaf_digest (way_of way) l)) i position) z) r made)
 
   module _ (d : Bool) (ed : d ≡ equal (get_or (path_digests (way_of way) (nodes_in work n)) i []) (leaf_digest (way_of way) l)) (y : v ≡ true) where
-    pub digest_differs : d ≡ false → Refused 24 position ≡ rows_of (found_rows (way_of way) l (nodes_in work n) (places_in work start n))
-    unfolding at_place rows_of need ◌>>=◌
-    digest_differs z = sym (ap rows_of (by_tests ∙ ap₂ (λ (a b : Bool). at_place a b i position) y (sym ed ∙ z)))
+    pub digest_differs : d ≡ false → (r : Refusal) → Made PathDigestDiffers position r → Here (Err r)
+    unfolding at_place need ◌>>=◌
+    digest_differs z r made = sym (refused-as _ PathDigestDiffers position (by_tests ∙ ap₂ (λ (a b : Bool). at_place a b i position) y (sym ed ∙ z)) r made)
 
-    pub both_pass : d ≡ true → Passed ≡ rows_of (found_rows (way_of way) l (nodes_in work n) (places_in work start n))
-    unfolding at_place rows_of need ◌>>=◌
-    both_pass z = sym (ap rows_of (by_tests ∙ ap₂ (λ (a b : Bool). at_place a b i position) y (sym ed ∙ z)))
+    pub both_pass : d ≡ true → Here (Ok tt)
+    unfolding at_place need ◌>>=◌
+    both_pass z = sym (by_tests ∙ ap₂ (λ (a b : Bool). at_place a b i position) y (sym ed ∙ z))
 
 -- ---- 18 and 22 before them
 
@@ -157,16 +170,20 @@ module _ (way : question.Way) (l : Leaf) (answer work : Bytes) (start n end : �
   unfolding trace_rows trace_in rows_from found_rows idle
   rows_are = refl
 
-  pub more_bytes : end < length answer → Refused 18 end ≡ rows_of (trace_rows way l (trace_in answer work start n end))
-  unfolding rows_from rows_of need ◌>>=◌
-  more_bytes h =
+  abbrev Rows : std.Result (Unit {0}) Refusal → Type 0
+  Rows r = told r ≡ trace_rows way l (trace_in answer work start n end)
+
+  pub more_bytes : end < length answer → (r : Refusal) → Made BytesAfterEnd end r → Rows (Err r)
+  unfolding rows_from need ◌>>=◌
+  more_bytes h r made =
       sym
-      (ap rows_of
+      (refused-as _ BytesAfterEnd end
       (rows_are
       ∙ ap (λ (b : Bool). rows_from b (is_none idle) (the_place (places_in work start n) idle))
-      (ne_eqb (length (drop end answer)) 0 (λ e. omega (arith, length-drop end answer, e)))))
+      (ne_eqb (length (drop end answer)) 0 (λ e. omega (arith, length-drop end answer, e))))
+      r made)
 
-  module _ (h : length answer ≤ end) (w1 : Bytes) (low : ℕ) (lowest : Lowest way work w1 n low) where
+  module _ (h : length answer ≤ end) (w1 : Bytes) (low : std.Option ℕ) (lowest : Lowest way work w1 n low) where
     at_end : eqb (length (drop end answer)) 0 ≡ true
     at_end = eq-eqb (length (drop end answer)) 0 (omega (arith, length-drop end answer))
 
@@ -178,26 +195,32 @@ module _ (way : question.Way) (l : Leaf) (answer work : Bytes) (start n end : �
     unfolding places_in
     places-kept = map_counting_same (place_in w1 start) (place_in work start) 0 n (λ j _ _. place_kept j)
 
-    pub idle_record : low < n → (position : ℕ) → position ≡ place_in w1 start low
-        → Refused 22 position ≡ rows_of (trace_rows way l (trace_in answer work start n end))
-    unfolding rows_from rows_of need ◌>>=◌ idle
-    idle_record g position e =
-        ap (Refused 22) (e ∙ place_kept low ∙ sym (place_at work start n low g))
-        ∙ sym
-        (ap rows_of
-        (rows_are
-        ∙ ap₂ (λ (b : Bool) (o : Option ℕ). rows_from b (is_none o) (the_place (places_in work start n) o)) at_end (there way work n low lowest.is g)))
-
-    pub rows_go_on : n ≤ low → (r : Rows) → r ≡ rows_of (found_rows way l (nodes_in w1 n) (places_in w1 start n))
-        → r ≡ rows_of (trace_rows way l (trace_in answer work start n end))
+  module _ (h : length answer ≤ end) (w1 : Bytes) where
+    pub idle_record : (low : ℕ) → Lowest way work w1 n (Some low) → (position : ℕ) → position ≡ place_in w1 start low
+        → (r : Refusal) → Made RecordUnreferenced position r → Rows (Err r)
     unfolding rows_from need ◌>>=◌ idle
-    rows_go_on g r e =
-        e
-        ∙ ap₂ (λ (ns : List VersionNode) (ps : List ℕ). rows_of (found_rows way l ns ps)) (nodes-kept (columns 81 82 ∷ []) work w1 lowest.kept tt n) places-kept
-        ∙ sym
-        (ap rows_of
-        (rows_are ∙ ap₂ (λ (t u : Bool). rows_from t u (the_place (places_in work start n) idle)) at_end (nowhere way work n low lowest.is g)))
+    idle_record low lowest position e r made =
+        sym
+        (refused-as _ RecordUnreferenced position
+        (rows_are
+        ∙ ap₂ (λ (b : Bool) (o : Option ℕ). rows_from b (is_none o) (the_place (places_in work start n) o)) (at_end h w1 (Some low) lowest) (there way work n low lowest.is)
+        ∙ ap (λ (q : ℕ). rows_from true false q) (place_at work start n low (below way work n low lowest.is) ∙ sym (e ∙ place_kept h w1 (Some low) lowest low)))
+        r made)
 
-pub ready-kept : (way : question.Way) (work w1 : Bytes) (n low : ℕ) → Ready work n → Lowest way work w1 n low → Ready w1 n
-ready-kept way work w1 n low r l =
-    record { room = omega (arith, r.room, l.kept.size); few = r.few; ordered = rw (nodes-kept (columns 81 82 ∷ []) work w1 l.kept tt n) r.ordered }
+    pub rows_go_on : Lowest way work w1 n None → (r : std.Result (Unit {0}) Refusal) → told r ≡ found_rows way l (nodes_in w1 n) (places_in w1 start n) → Rows r
+    unfolding rows_from need ◌>>=◌ idle
+    rows_go_on lowest r e =
+        e
+        ∙ ap₂ (λ (ns : List VersionNode) (ps : List ℕ). found_rows way l ns ps) (nodes-kept (columns 81 82 ∷ []) work w1 lowest.kept tt n) (places-kept h w1 None lowest)
+        ∙ sym
+        (rows_are
+        ∙ ap₂ (λ (t u : Bool). rows_from t u (the_place (places_in work start n) idle)) (at_end h w1 None lowest) (nowhere way work n lowest.is))
+
+module _ (way : question.Way) (work w1 : Bytes) (n : ℕ) (r : Ready work n) where
+  pub ready-kept : Lowest way work w1 n None → Ready w1 n
+  ready-kept l =
+      record { room = omega (arith, r.room, l.kept.size); few = r.few; ordered = rw (nodes-kept (columns 81 82 ∷ []) work w1 l.kept tt n) r.ordered }
+
+  -- the slot of the lowest one is there
+  pub lowest-there : (low : ℕ) → Lowest way work w1 n (Some low) → 128 * low + 128 ≤ length w1
+  lowest-there low l = omega (arith, r.room, l.kept.size, below way work n low l.is)

@@ -1,5 +1,7 @@
 -- The check's answers as document 01's definitions give them. Assumes nothing.
-use Rattle.std.specs.Prelude.{◌≡◌, ◌&&◌, List, [], map, ℕ, ◌+◌, ◌≤◌, eqb, length, get_or, take, drop}
+use Rattle.std.specs.Prelude.{◌≡◌, ◌&&◌, List, [], map, ℕ, ◌+◌, ◌≤◌, eqb, length, get_or, take, drop, None, Some, Ok, Err}
+use Rattle.std.specs.Prelude as std
+use Rattle.std.specs.Result.{IfOk}
 use Rattle.std.proofs.Math.Option.{Option, none, some}
 use Rattle.fields.specs.Fields.{equal}
 use Rattle.model.specs.Numbers.{Bytes}
@@ -14,14 +16,12 @@ use Rattle.graph.specs.Table.{nodes_in, Kept, Digests, Ready}
 use Rattle.marks.specs.Marks.{mark_column}
 use Rattle.proof_reader.specs.Walks.{stop_of}
 use Rattle.trace_reader.specs.Records.{places_in}
-use Rattle.checker.specs.declared.Checking.{Checking}
-use Rattle.checker.specs.declared.Checking.TheVariants as checking
+use Rattle.outcome.specs.declared.Refusal.{Refusal}
+use Rattle.outcome.specs.Outcomes.{told}
 use Rattle.checker.specs.declared.Verdict as declared
 use Rattle.checker.specs.declared.Verdict.TheVariants.{NotFound, Found, Listed}
 use Rattle.checker.specs.declared.Bounds.{Bounds}
 use Rattle.checker.specs.declared.Run.{Run}
-use Rattle.checker.specs.declared.Rows.{Rows}
-use Rattle.checker.specs.declared.Rows.TheVariants.{Passed, Refused}
 
 -- ---- the verdict
 
@@ -31,31 +31,43 @@ declared_verdict (Verdict.not_found s) = NotFound (stop_of s)
 declared_verdict (Verdict.found t n) = Found (record { 0 = t }) n
 declared_verdict (Verdict.listed vs) = Listed (length vs)
 
-unfoldable pub checking_of : Result Verdict → Checking
-checking_of (ok v) = checking.Accepted (declared_verdict v)
-checking_of (refuse n p) = checking.Refused n p
+unfoldable pub checking_of : Result Verdict → Result declared.Verdict
+checking_of (ok v) = ok (declared_verdict v)
+checking_of (refuse n p) = refuse n p
+
+-- a part of the answer
+abbrev pub bounds : ℕ → ℕ → Bounds
+bounds start length = record { start = start; length = length }
 
 -- where in the answer the checked records stand; 0 and 0 if there are none or the check refuses
 unfoldable pub bounds_of : Result Accepted → Bounds
-bounds_of (ok a) = record { start = a.records_start; length = a.records_length }
-bounds_of (refuse n p) = record { start = 0; length = 0 }
+bounds_of (ok a) = bounds a.records_start a.records_length
+bounds_of (refuse n p) = bounds 0 0
 
--- a run of the check: its outcome, and where the checked records stand
-pub record RunIs (answer : Bytes) (m : Result Accepted) (r : Run) : Type 0 where
-  pub checking_is : r.checking ≡ checking_of (verdict_of m)
-  pub bounds_are : ◌≡◌ {A = Bounds} (record { start = r.start; length = r.length }) (bounds_of m)
-  pub inside : r.start + r.length ≤ length answer
+-- the part of the answer in which a run's records stand
+abbrev pub Inside : Bytes → Bounds → Type 0
+Inside answer b = b.start + b.length ≤ length answer
 
-pub record BoundsAre (answer : Bytes) (m : Result Accepted) (r : Bounds) : Type 0 where
-  pub are : r ≡ bounds_of m
-  pub within : r.start + r.length ≤ length answer
+-- a run of the check: what an accepted answer says, and where the checked records stand; or the row that turns it away and where
+unfoldable pub run_of : Result Accepted → Result Run
+run_of (ok a) = ok (record { verdict = declared_verdict a.verdict; records = bounds a.records_start a.records_length })
+run_of (refuse n p) = refuse n p
 
--- a run that ends without records
-unfoldable pub bare_run : Checking → Run
-bare_run c = record { checking = c; start = 0; length = 0 }
+pub record RunIs (answer : Bytes) (m : Result Accepted) (r : std.Result Run Refusal) : Type 0 where
+  pub is : told r ≡ run_of m
+  pub inside : IfOk r (λ run. Inside answer run.records)
+
+-- where its records stand, where it has any
+abbrev pub bounds_told : std.Result Bounds Refusal → Bounds
+bounds_told (Ok b) = b
+bounds_told (Err e) = bounds 0 0
+
+pub record BoundsAre (answer : Bytes) (m : Result Accepted) (r : std.Result Bounds Refusal) : Type 0 where
+  pub are : bounds_told r ≡ bounds_of m
+  pub within : Inside answer (bounds_told r)
 
 -- a run without a trace, behind a proof that ended before the byte `at`
-abbrev pub EndsHere : Bytes → ℕ → declared.Verdict → Run → Type 0
+abbrev pub EndsHere : Bytes → ℕ → declared.Verdict → std.Result Run Refusal → Type 0
 EndsHere answer at verdict r = (e : SearchEnd Leaf) (v : Verdict) → verdict ≡ declared_verdict v → RunIs answer (end_here v (stopped e at (drop at answer))) r
 
 -- ---- the list
@@ -65,8 +77,8 @@ unfoldable pub fitted : ℕ → Result Verdict → Result Verdict
 fitted out v = v >>= λ v. room v out >>= λ _. ok v
 
 -- the outcome of a check with this verdict, and the output after it
-pub record Checks (v : Result Verdict) (out out' : Bytes) (r : Checking) : Type 0 where
-  pub result_is : r ≡ checking_of (fitted (length out) v)
+pub record Checks (v : Result Verdict) (out out' : Bytes) (r : std.Result declared.Verdict Refusal) : Type 0 where
+  pub result_is : told r ≡ checking_of (fitted (length out) v)
   pub output_is : out' ≡ output_after out (fitted (length out) v >>= λ v. ok (list_string v))
 
 -- behind a proof that ended before the byte `at` with these leaves opened
@@ -85,19 +97,15 @@ found_proof answer leaf at = stopped (SearchEnd.found (leaf_in_answer answer lea
 
 -- ---- the rows behind the trace's records
 
-unfoldable pub rows_of : Result (Unit {0}) → Rows
-rows_of (ok u) = Passed
-rows_of (refuse n p) = Refused n p
-
--- a place, or n if there is none
-unfoldable pub place_or : ℕ → Option ℕ → ℕ
-place_or n none = n
-place_or n (some i) = i
+-- a place
+abbrev pub place_of : Option ℕ → std.Option ℕ
+place_of none = None
+place_of (some i) = Some i
 
 -- 22: the lowest record but the last to which none refers
-pub record Lowest (way : Way) (work work' : Bytes) (n r : ℕ) : Type 0 where
+pub record Lowest (way : Way) (work work' : Bytes) (n : ℕ) (r : std.Option ℕ) : Type 0 where
   pub kept : Kept mark_column work work'
-  pub is : r ≡ place_or n (unreferenced way (nodes_in work n))
+  pub is : r ≡ place_of (unreferenced way (nodes_in work n))
 
 -- where the path digests of a trace stand in a slot
 unfoldable pub digest_column : Way → ℕ

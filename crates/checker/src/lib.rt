@@ -10,19 +10,20 @@ ghost use Rattle.model.specs.CheckRows.{found_position, path_digests, leaf_diges
 ghost use Rattle.model.specs.Calls.{verdict_of, check_call, records_call};
 ghost use Rattle.model.specs.Trace.{trace_header_width};
 ghost use Rattle.model.specs.Accumulator.{L_width, letter_R};
+ghost use Rattle.outcome.specs.Outcomes.{told};
 ghost use Rattle.question.specs.Ways.{way_of};
-ghost use Rattle.question.specs.Directions.{part_of, question_of, span_of, AskedIs};
+ghost use Rattle.question.specs.Directions.{part_of, question_of, span_of};
 ghost use Rattle.graph.specs.Table.{Slot, node_in, nodes_in, Ready};
 ghost use Rattle.marks.specs.Marks.{is_marked};
 ghost use Rattle.proof_reader.specs.Spans.{ListStrings};
 ghost use Rattle.trace_reader.specs.Records.{place_in, places_in};
-ghost use Rattle.checker.specs.declared.Checking.TheVariants.{Refused};
-ghost use Rattle.checker.specs.Runs.{checking_of, bounds_of, RunIs, BoundsAre, bare_run, EndsHere, list_verdict, Checks, leaf_in_answer, found_proof, rows_of, Lowest, digest_column, PathDigests, trace_in, found_rows, TraceInTable};
+ghost use Rattle.checker.specs.Runs.{checking_of, bounds_of, RunIs, BoundsAre, EndsHere, list_verdict, Checks, leaf_in_answer, found_proof, Lowest, digest_column, PathDigests, trace_in, found_rows, TraceInTable};
 
 use graph::{INCOMING_COLUMN, OUTGOING_COLUMN, PLACE_COLUMN, SLOT_WIDTH};
 use model::LETTER_R;
+use outcome::{Refusal, Row};
 use proof_reader::{ListProof, Proof, Stop};
-use question::{Asked, EntityKey, Part, Question, SpanQuestion, TimeKey, Way};
+use question::{EntityKey, Query, Question, SpanQuestion, TimeKey, Way};
 use strings::{DIGEST_WIDTH, L_INCOMING, NAME_WIDTH, TRACE_HEADER_WIDTH};
 use trace_reader::Trace;
 
@@ -34,38 +35,31 @@ pub enum Verdict {
     Listed { count: usize },
 }
 
-// The verdict of an accepted answer, or the row that turned it away and where.
-#[derive(Clone, Copy)]
-pub enum Checking {
-    Accepted { verdict: Verdict },
-    Refused { number: u64, position: usize },
-}
-
 // ---- row 22
 
 // i if its slot has no mark, else the lowest so far.
-fn lower(work: &[u8], i: usize, lowest: usize) -> usize
+fn lower(work: &[u8], i: usize, lowest: Option<usize>) -> Option<usize>
     requires { Slot work.now i }
-    ensures { result ≡ cond (is_marked work.now i) lowest i }
+    ensures { result ≡ cond (is_marked work.now i) lowest (Some i) }
 {
     if marks::marked(work, i) {
-        return lowest;
+        lowest
+    } else {
+        Some(i)
     }
-    i
 }
 
-// The lowest record but the last to which none refers, or n. From the last to the first, each record marks those to which it refers:
-// so a mark tells whether a later one refers to a record.
-fn find_unreferenced_backward(work: &mut [u8], n: usize) -> usize
+// The lowest record but the last to which none refers. From the last to the first, each record marks those to which it refers: so a mark
+// tells whether a later one refers to a record.
+fn find_unreferenced_backward(work: &mut [u8], n: usize) -> Option<usize>
     requires { Ready work.old n × (0 < n) }
     ensures { Lowest backward work.old work.new n result }
 {
+    let last = n - 1;
+    let mut lowest = None;
     marks::clear_marks(work, n);
-    let mut i = n - 1;
-    let mut lowest = n;
-    marks::mark_starts(work, i);
-    while i > 0 {
-        i -= 1;
+    marks::mark_starts(work, last);
+    for i in (0..last).rev() {
         lowest = lower(work, i, lowest);
         marks::mark_starts(work, i);
     }
@@ -73,13 +67,13 @@ fn find_unreferenced_backward(work: &mut [u8], n: usize) -> usize
 }
 
 // Row 22 is backward's alone.
-fn find_unreferenced(way: Way, work: &mut [u8], n: usize) -> usize
+fn find_unreferenced(way: Way, work: &mut [u8], n: usize) -> Option<usize>
     requires { Ready work.old n × (0 < n) }
     ensures { Lowest (way_of way) work.old work.new n result }
 {
     match way {
         Way::Backward => find_unreferenced_backward(work, n),
-        Way::Forward => n,
+        Way::Forward => None,
     }
 }
 
@@ -109,12 +103,8 @@ fn same_version(work: &[u8], i: usize, answer: &[u8], leaf: usize) -> bool
     requires { Slot work.now i × (leaf + L_width ≤ length answer.now) }
     ensures { result ≡ (eqb (node_in work.now i).entity (leaf_in_answer answer.now leaf).entity && eqb (node_in work.now i).time (leaf_in_answer answer.now leaf).time) }
 {
-    let entity = proof_reader::leaf_entity(answer, leaf);
-    let time = proof_reader::leaf_time(answer, leaf);
-    if graph::entity_of(work, i).same(entity) {
-        return graph::time_of(work, i).same(time);
-    }
-    false
+    graph::entity_of(work, i) == proof_reader::leaf_entity(answer, leaf)
+        && graph::time_of(work, i) == proof_reader::leaf_time(answer, leaf)
 }
 
 // The column of a trace's path digests: that of incoming digests in B, of outgoing ones in F.
@@ -161,13 +151,6 @@ fn compare_digest(
     )
 }
 
-// A row that is met, and where, or none.
-#[derive(Clone, Copy)]
-enum Rows {
-    Passed,
-    Refused { number: u64, position: usize },
-}
-
 // Rows 23 and 24.
 fn check_found_record(
     way: Way,
@@ -177,131 +160,101 @@ fn check_found_record(
     n: usize,
     work: &mut [u8],
     constants: &[u32; 64],
-) -> Rows
+) -> Result<(), Refusal>
     requires { (Ready work.old n × (0 < n) × (leaf + L_width ≤ length answer.now) × (start ≤ length answer.now)) × (constants.now ≡ K) }
-    ensures { result ≡ rows_of (found_rows (way_of way) (leaf_in_answer answer.now leaf) (nodes_in work.old n) (places_in work.old start n)) }
+    ensures { told result ≡ found_rows (way_of way) (leaf_in_answer answer.now leaf) (nodes_in work.old n) (places_in work.old start n) }
 {
     let i = found_position(way, n);
     let position = record_place(work, start, i);
-    if same_version(work, i, answer, leaf) {
-        if compare_digest(way, work, n, i, answer, leaf, constants) {
-            return Rows::Passed;
-        }
-        return Rows::Refused {
-            number: 24,
-            position: position,
-        };
+    if !same_version(work, i, answer, leaf) {
+        return Err(Row::FoundRecordDiffers.at(position));
     }
-    Rows::Refused {
-        number: 23,
-        position: position,
+    if !compare_digest(way, work, n, i, answer, leaf, constants) {
+        return Err(Row::PathDigestDiffers.at(position));
     }
+    Ok(())
 }
 
-// Rows 18, 22, 23 and 24.
+// Rows 18, 22, 23 and 24, of a trace that begins at `start`.
 fn check_trace_rows(
     way: Way,
     answer: &[u8],
     leaf: usize,
     start: usize,
-    n: usize,
-    end: usize,
+    trace: Trace,
     work: &mut [u8],
     constants: &[u32; 64],
-) -> Rows
-    requires { (Ready work.old n × (0 < n) × (leaf + L_width ≤ length answer.now) × (start ≤ length answer.now) × (end ≤ length answer.now)) × (constants.now ≡ K) }
-    ensures { result ≡ rows_of (trace_rows (way_of way) (leaf_in_answer answer.now leaf) (trace_in answer.now work.old start n end)) }
+) -> Result<(), Refusal>
+    requires { (Ready work.old trace.count × (0 < trace.count) × (leaf + L_width ≤ length answer.now) × (start ≤ length answer.now) × (trace.end ≤ length answer.now)) × (constants.now ≡ K) }
+    ensures { told result ≡ trace_rows (way_of way) (leaf_in_answer answer.now leaf) (trace_in answer.now work.old start trace.count trace.end) }
 {
-    if end < answer.len() {
-        return Rows::Refused {
-            number: 18,
-            position: end,
-        };
+    if trace.end < answer.len() {
+        return Err(Row::BytesAfterEnd.at(trace.end));
     }
-    let lowest = find_unreferenced(way, work, n);
-    if lowest < n {
-        let position = record_place(work, start, lowest);
-        return Rows::Refused {
-            number: 22,
-            position: position,
-        };
+    if let Some(lowest) = find_unreferenced(way, work, trace.count) {
+        return Err(Row::RecordUnreferenced.at(record_place(work, start, lowest)));
     }
-    check_found_record(way, answer, leaf, start, n, work, constants)
+    check_found_record(way, answer, leaf, start, trace.count, work, constants)
 }
 
 // ---- a run of the check
 
-// The outcome, and where in the answer the checked records stand: 0 and 0 if there are none.
+// Where a part of the answer stands.
+#[derive(Clone, Copy)]
+pub struct Bounds {
+    pub start: usize,
+    pub length: usize,
+}
+
+const NO_RECORDS: Bounds = Bounds {
+    start: 0,
+    length: 0,
+};
+
+// A run that accepts the answer: what it says, and where in the answer the checked records stand.
 #[derive(Clone, Copy)]
 struct Run {
-    checking: Checking,
-    start: usize,
-    length: usize,
-}
-
-// A run that ends without records.
-fn bare_run(checking: Checking) -> Run
-    ensures { result ≡ bare_run checking }
-{
-    Run {
-        checking: checking,
-        start: 0,
-        length: 0,
-    }
-}
-
-// A run that a row turns away.
-fn refused_run(number: u64, position: usize) -> Run
-    ensures { result ≡ bare_run (Refused number position) }
-{
-    bare_run(Checking::Refused {
-        number: number,
-        position: position,
-    })
+    verdict: Verdict,
+    records: Bounds,
 }
 
 // Without a trace, the answer ends where the proof does: row 18.
-fn end_here(answer: &[u8], at: usize, verdict: Verdict) -> Run
+fn end_here(answer: &[u8], at: usize, verdict: Verdict) -> Result<Run, Refusal>
     requires { at ≤ length answer.now }
     ensures { EndsHere answer.now at verdict result }
 {
     if at < answer.len() {
-        return refused_run(18, at);
+        return Err(Row::BytesAfterEnd.at(at));
     }
-    bare_run(Checking::Accepted { verdict: verdict })
+    Ok(Run {
+        verdict,
+        records: NO_RECORDS,
+    })
 }
 
-// The trace has been read into the table.
+// The trace behind the proof, which ended at the leaf, has been read into the table.
 fn check_read_trace(
     way: Way,
     answer: &[u8],
     leaf: usize,
     at: usize,
-    n: usize,
-    end: usize,
+    trace: Trace,
     work: &mut [u8],
     constants: &[u32; 64],
-) -> Run
-    requires { (Ready work.old n × (0 < n) × (leaf + L_width ≤ length answer.now) × (at + trace_header_width ≤ length answer.now) × (end ≤ length answer.now)) × (constants.now ≡ K) }
-    ensures { (size : ℕ) → TraceInTable (way_of way) size answer.now at work.old n end → RunIs answer.now (with_trace (way_of way) size (found_proof answer.now leaf at) (leaf_in_answer answer.now leaf)) result }
+) -> Result<Run, Refusal>
+    requires { (Ready work.old trace.count × (0 < trace.count) × (leaf + L_width ≤ length answer.now) × (at + trace_header_width ≤ length answer.now) × (trace.end ≤ length answer.now)) × (constants.now ≡ K) }
+    ensures { (size : ℕ) → TraceInTable (way_of way) size answer.now at work.old trace.count trace.end → RunIs answer.now (with_trace (way_of way) size (found_proof answer.now leaf at) (leaf_in_answer answer.now leaf)) result }
 {
-    match check_trace_rows(way, answer, leaf, at, n, end, work, constants) {
-        Rows::Refused { number, position } => refused_run(number, position),
-        Rows::Passed => {
-            let time = proof_reader::leaf_time(answer, leaf);
-            let start = at + TRACE_HEADER_WIDTH;
-            let length = answer.len() - start;
-            let verdict = Verdict::Found {
-                time: time,
-                count: n,
-            };
-            Run {
-                checking: Checking::Accepted { verdict: verdict },
-                start: start,
-                length: length,
-            }
-        }
-    }
+    check_trace_rows(way, answer, leaf, at, trace, work, constants)?;
+    let start = at + TRACE_HEADER_WIDTH;
+    let length = answer.len() - start;
+    Ok(Run {
+        verdict: Verdict::Found {
+            time: proof_reader::leaf_time(answer, leaf),
+            count: trace.count,
+        },
+        records: Bounds { start, length },
+    })
 }
 
 // A trace behind the proof, which ended at the leaf.
@@ -312,106 +265,97 @@ fn check_trace(
     at: usize,
     work: &mut [u8],
     constants: &[u32; 64],
-) -> Run
+) -> Result<Run, Refusal>
     requires { ((leaf + L_width ≤ length answer.now) × (at ≤ length answer.now)) × (constants.now ≡ K) }
     ensures { RunIs answer.now (with_trace (way_of way) (length work.old) (found_proof answer.now leaf at) (leaf_in_answer answer.now leaf)) result }
 {
-    match trace_reader::read_trace(answer, at, way, work) {
-        Trace::Refused { number, position } => refused_run(number, position),
-        Trace::Read { count, end } => check_read_trace(
-            way, answer, leaf, at, count, end, work, constants,
-        ),
-    }
+    let trace = trace_reader::read_trace(answer, at, way, work)?;
+    check_read_trace(way, answer, leaf, at, trace, work, constants)
 }
 
-// The proof ended at the leaf.
+// The proof ended at the leaf, and a trace is asked for, or none.
 fn check_found(
-    part: Part,
+    trace: Option<Way>,
     answer: &[u8],
     leaf: usize,
     at: usize,
     work: &mut [u8],
     constants: &[u32; 64],
-) -> Run
+) -> Result<Run, Refusal>
     requires { ((leaf + L_width ≤ length answer.now) × (at ≤ length answer.now)) × (constants.now ≡ K) }
-    ensures { RunIs answer.now (check_end (part_of part) (length work.old) (found_proof answer.now leaf at) (SearchEnd.found (leaf_in_answer answer.now leaf))) result }
+    ensures { RunIs answer.now (check_end (part_of trace) (length work.old) (found_proof answer.now leaf at) (SearchEnd.found (leaf_in_answer answer.now leaf))) result }
 {
-    match part {
-        Part::VersionOnly => {
+    match trace {
+        None => {
             let time = proof_reader::leaf_time(answer, leaf);
-            end_here(
-                answer,
-                at,
-                Verdict::Found {
-                    time: time,
-                    count: 0,
-                },
-            )
+            end_here(answer, at, Verdict::Found { time, count: 0 })
         }
-        Part::Trace { way } => check_trace(way, answer, leaf, at, work, constants),
+        Some(way) => check_trace(way, answer, leaf, at, work, constants),
     }
 }
 
 // The run of a question for one version: row 14, the proof, the trace.
-fn run_one(question: Question, commitment: &[u8], answer: &[u8], work: &mut [u8]) -> Run
+fn run_one(
+    question: Question,
+    commitment: &[u8],
+    answer: &[u8],
+    work: &mut [u8],
+) -> Result<Run, Refusal>
     ensures { RunIs answer.now (run_under letter_R (one (question_of question)) commitment.now answer.now (length work.old)) result }
 {
     if commitment.len() != DIGEST_WIDTH {
-        return refused_run(14, 0);
+        return Err(Row::CommitmentNot32.at(0));
     }
-    let part = question.part;
     let constants = round_constants::work_out();
-    match proof_reader::check_proof(LETTER_R, question, commitment, answer, 0, &constants) {
-        Proof::Refused { number, position } => refused_run(number, position),
-        Proof::Stopped { stop, at } => end_here(answer, at, Verdict::NotFound { stop: stop }),
-        Proof::Found { leaf, at } => check_found(part, answer, leaf, at, work, &constants),
+    match proof_reader::check_proof(LETTER_R, question, commitment, answer, 0, &constants)? {
+        Proof::Stopped { stop, at } => end_here(answer, at, Verdict::NotFound { stop }),
+        Proof::Found { leaf, at } => {
+            check_found(question.trace, answer, leaf, at, work, &constants)
+        }
     }
 }
 
 // ---- all versions between two times
 
-// A row, and where it is met.
-fn refused(number: u64, position: usize) -> Checking
-    ensures { result ≡ Refused number position }
-{
-    Checking::Refused {
-        number: number,
-        position: position,
-    }
-}
-
 // The strings that name the versions have been read: rows 18 and 13, and only then is the list written.
-fn give_list(answer: &[u8], start: usize, end: usize, count: usize, out: &mut [u8]) -> Checking
+fn give_list(
+    answer: &[u8],
+    start: usize,
+    end: usize,
+    count: usize,
+    out: &mut [u8],
+) -> Result<Verdict, Refusal>
     requires { ListStrings answer.now start end count }
     ensures { (l : ListStrings answer.now start end count) → Checks (list_verdict answer.now end l.leaves) out.old out.new result }
 {
     let size = NAME_WIDTH * count;
     if answer.len() > end {
-        return refused(18, end);
+        return Err(Row::BytesAfterEnd.at(end));
     }
     if out.len() < size {
-        return refused(13, 0);
+        return Err(Row::OutputShort.at(0));
     }
     proof_reader::put_list(answer, start, end, out);
-    Checking::Accepted {
-        verdict: Verdict::Listed { count: count },
-    }
+    Ok(Verdict::Listed { count })
 }
 
 // The check of a question for all versions between two times: row 14, the proof, 18, 13. It needs no work area.
-fn check_all(span: SpanQuestion, commitment: &[u8], answer: &[u8], out: &mut [u8]) -> Checking
+fn check_all(
+    span: SpanQuestion,
+    commitment: &[u8],
+    answer: &[u8],
+    out: &mut [u8],
+) -> Result<Verdict, Refusal>
     ensures { (size : ℕ) → Checks (verdict_of (run_under letter_R (all (span_of span)) commitment.now answer.now size)) out.old out.new result }
 {
     if commitment.len() != DIGEST_WIDTH {
-        return refused(14, 0);
+        return Err(Row::CommitmentNot32.at(0));
     }
     let constants = round_constants::work_out();
-    match proof_reader::check_list(LETTER_R, span, commitment, answer, 0, &constants) {
-        ListProof::Refused { number, position } => refused(number, position),
+    match proof_reader::check_list(LETTER_R, span, commitment, answer, 0, &constants)? {
         ListProof::NoEntity { at } => {
             let stop = Stop::NoEntity;
-            let r = end_here(answer, at, Verdict::NotFound { stop: stop });
-            r.checking
+            Ok(end_here(answer, at, Verdict::NotFound { stop })?.verdict)
         }
         ListProof::Listed { start, end, count } => give_list(answer, start, end, count, out),
     }
@@ -421,27 +365,26 @@ fn check_all(span: SpanQuestion, commitment: &[u8], answer: &[u8], out: &mut [u8
 
 // Rows 11 and 25, or the check of what is asked; the work area is left as it comes.
 fn check_asked(
-    asked: Asked,
+    direction: u8,
+    entity: EntityKey,
+    time: TimeKey,
+    until: TimeKey,
     commitment: &[u8],
     answer: &[u8],
     work: &mut [u8],
     out: &mut [u8],
-) -> Checking
-    ensures { (d s t t2 : ℕ) → AskedIs d s t t2 asked → Checks (verdict_of (run d s t t2 commitment.now answer.now (length work.old))) out.old out.new result }
+) -> Result<Verdict, Refusal>
+    ensures { Checks (verdict_of (run direction entity.0 time.0 until.0 commitment.now answer.now (length work.old))) out.old out.new result }
 {
-    match asked {
-        Asked::Unknown => refused(11, 0),
-        Asked::Reversed => refused(25, 0),
-        Asked::One { question } => {
-            let r = run_one(question, commitment, answer, work);
-            r.checking
-        }
-        Asked::All { span } => check_all(span, commitment, answer, out),
+    match question::asked_by(direction, entity, time, until)? {
+        Query::One { question } => Ok(run_one(question, commitment, answer, work)?.verdict),
+        Query::All { span } => check_all(span, commitment, answer, out),
     }
 }
 
-// Checks an answer against a commitment. The work area takes 128 bytes for each record of the answer's trace and is zero afterwards. For all
-// versions between two times, their list is written to the front of `out`, 12 bytes a version; else `out` stays as it was.
+// Checks an answer against a commitment: what an accepted answer says, or the row that turned it away and where. The work area takes 128
+// bytes for each record of the answer's trace and is zero afterwards. For all versions between two times, their list is written to the front
+// of `out`, 12 bytes a version; else `out` stays as it was.
 pub fn check(
     direction: u8,
     entity: EntityKey,
@@ -451,50 +394,34 @@ pub fn check(
     answer: &[u8],
     work: &mut [u8],
     out: &mut [u8],
-) -> Checking
-    ensures result { result ≡ checking_of (check_call direction entity.0 time.0 until.0 commitment.now answer.now out.old work.old).result }
+) -> Result<Verdict, Refusal>
+    ensures result { told result ≡ checking_of (check_call direction entity.0 time.0 until.0 commitment.now answer.now out.old work.old).result }
     ensures output { out.new ≡ (check_call direction entity.0 time.0 until.0 commitment.now answer.now out.old work.old).output }
     ensures cleared { work.new ≡ (check_call direction entity.0 time.0 until.0 commitment.now answer.now out.old work.old).work }
 {
-    let asked = question::asked_by(direction, entity, time, until);
-    let r = check_asked(asked, commitment, answer, work, out);
+    let checking = check_asked(
+        direction, entity, time, until, commitment, answer, work, out,
+    );
     fields::clear(work);
-    r
+    checking
 }
 
-// Where a part of the answer stands.
-#[derive(Clone, Copy)]
-pub struct Bounds {
-    pub start: usize,
-    pub length: usize,
-}
-
-// No records: an empty part.
-fn no_records() -> Bounds
-    ensures { result ≡ record { start = 0; length = 0 } }
+// Where in the answer the checked records stand, or the row that turns it away; the work area is left as it comes. Only a question for one
+// version has records.
+fn bounds_asked(
+    direction: u8,
+    entity: EntityKey,
+    time: TimeKey,
+    until: TimeKey,
+    commitment: &[u8],
+    answer: &[u8],
+    work: &mut [u8],
+) -> Result<Bounds, Refusal>
+    ensures { BoundsAre answer.now (run direction entity.0 time.0 until.0 commitment.now answer.now (length work.old)) result }
 {
-    let none: usize = 0;
-    Bounds {
-        start: none,
-        length: none,
-    }
-}
-
-// Where in the answer the checked records stand; the work area is left as it comes. Only a question for one version has records.
-fn bounds_asked(asked: Asked, commitment: &[u8], answer: &[u8], work: &mut [u8]) -> Bounds
-    ensures { (d s t t2 : ℕ) → AskedIs d s t t2 asked → BoundsAre answer.now (run d s t t2 commitment.now answer.now (length work.old)) result }
-{
-    match asked {
-        Asked::Unknown => no_records(),
-        Asked::Reversed => no_records(),
-        Asked::All { span } => no_records(),
-        Asked::One { question } => {
-            let run = run_one(question, commitment, answer, work);
-            Bounds {
-                start: run.start,
-                length: run.length,
-            }
-        }
+    match question::asked_by(direction, entity, time, until)? {
+        Query::One { question } => Ok(run_one(question, commitment, answer, work)?.records),
+        Query::All { .. } => Ok(NO_RECORDS),
     }
 }
 
@@ -512,10 +439,9 @@ pub fn record_bounds(
     ensures inside { result.start + result.length ≤ length answer.now }
     ensures cleared { work.new ≡ (records_call direction entity.0 time.0 until.0 commitment.now answer.now work.old).work }
 {
-    let asked = question::asked_by(direction, entity, time, until);
-    let b = bounds_asked(asked, commitment, answer, work);
+    let bounds = bounds_asked(direction, entity, time, until, commitment, answer, work);
     fields::clear(work);
-    b
+    bounds.unwrap_or(NO_RECORDS)
 }
 
 // The checked records as that part of the answer; an empty part if there are none or the check refuses.
@@ -531,7 +457,8 @@ pub fn records<'a>(
     ensures result { result.now ≡ (records_call direction entity.0 time.0 until.0 commitment.now answer.now work.old).result }
     ensures cleared { work.new ≡ (records_call direction entity.0 time.0 until.0 commitment.now answer.now work.old).work }
 {
-    let b = record_bounds(direction, entity, time, until, commitment, answer, work);
-    let start = b.start;
-    &answer[start..start + b.length]
+    let Bounds { start, length } = record_bounds(
+        direction, entity, time, until, commitment, answer, work,
+    );
+    &answer[start..start + length]
 }

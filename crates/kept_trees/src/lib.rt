@@ -87,9 +87,9 @@ fn kept_node(row: Row, work: &[u8], ranks: Ranks, from: usize, n: usize, k: usiz
     let greatest = key_at(row, work, ranks, from + (n - 1));
     let digest = leaves::kept_digest(work, slot_of(row, work, ranks, from + k));
     Subtree {
-        least: least,
-        greatest: greatest,
-        digest: digest,
+        least,
+        greatest,
+        digest,
     }
 }
 
@@ -157,10 +157,8 @@ fn slots_at(work: &[u8], ranks: Ranks, from: usize, count: usize) -> [usize; LAN
     ensures { SlotsAt work.now from count result }
 {
     let mut slots = [0usize; LANES];
-    let mut l: usize = 0;
-    while l < count {
+    for l in 0..count {
         slots[l] = ranks::slot_at(work, from + l);
-        l += 1;
     }
     slots
 }
@@ -171,12 +169,10 @@ fn keep_leaves(work: &mut [u8], ranks: Ranks, constants: &[u32; 64])
     ensures kept { Kept (columns 84 116 ∷ []) work.old work.new }
     ensures leaves { LeafDigests (versions_row work.new) work.new 0 ranks.versions }
 {
-    let mut i: usize = 0;
-    while i < ranks.versions {
-        let count = lanes::together(ranks.versions - i);
-        let slots = slots_at(work, ranks, i, count);
-        leaves::keep(work, slots, count, i, constants);
-        i += count;
+    for from in (0..ranks.versions).step_by(LANES) {
+        let count = LANES.min(ranks.versions - from);
+        let slots = slots_at(work, ranks, from, count);
+        leaves::keep(work, &slots[..count], from, constants);
     }
 }
 
@@ -231,12 +227,10 @@ fn keep_batch(
     ensures trees { KeptTo work.new ranks g (g + count) }
     ensures strings { EntityStrings work.new ranks g count b.new }
 {
-    let mut l: usize = 0;
-    while l < count {
+    for l in 0..count {
         let versions = keep_entity(work, ranks, g + l, constants);
         let entity = ranks::entity_at(work, ranks, g + l);
         accumulator::put_group(b, G_WIDTH * l, entity, versions);
-        l += 1;
     }
 }
 
@@ -245,8 +239,7 @@ fn put_digests(work: &mut [u8], ranks: Ranks, g: usize, count: usize, digests: [
     requires { Ranked work.old ranks × (count ≤ 8) × (g + count ≤ ranks.entities) }
     ensures { EntitiesFilled work.old ranks g digests count work.new }
 {
-    let mut l: usize = 0;
-    while l < count {
+    for l in 0..count {
         let slot = ranks::first_at(work, ranks, g + l);
         fields::copy(
             work,
@@ -255,7 +248,6 @@ fn put_digests(work: &mut [u8], ranks: Ranks, g: usize, count: usize, digests: [
             DIGEST_WIDTH * l,
             DIGEST_WIDTH,
         );
-        l += 1;
     }
 }
 
@@ -266,13 +258,11 @@ fn keep_entities(work: &mut [u8], ranks: Ranks, constants: &[u32; 64])
     ensures trees { KeptTo work.new ranks ranks.entities ranks.entities }
 {
     let mut b = [0u8; LANES * G_WIDTH];
-    let mut g: usize = 0;
-    while g < ranks.entities {
-        let count = lanes::together(ranks.entities - g);
+    for g in (0..ranks.entities).step_by(LANES) {
+        let count = LANES.min(ranks.entities - g);
         keep_batch(&mut b, work, ranks, g, count, constants);
         let digests = lanes::digests(&b, G_WIDTH, G_WIDTH, count, constants);
         put_digests(work, ranks, g, count, digests);
-        g += count;
     }
 }
 

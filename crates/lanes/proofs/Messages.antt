@@ -9,7 +9,7 @@ use Rattle.round_constants.specs.Constants.{undivided, prime, primes_from, prime
 use Rattle.sha256.specs.Sha256.{H0, compress, hashed, bytes, sha256}
 use Rattle.sha256.specs.State.{ending}
 use Rattle.sha256.proofs.Size.{length-bytes, length-sha256}
-use Rattle.sha256.proofs.Messages.{Passed, passed_none, passed-more, passed-all, hashed-part}
+use Rattle.sha256.proofs.Messages.{Passed, passed-more, passed-all, hashed-part}
 use Rattle.sha256.proofs.Padding.{padded_shape, padded-length, digest_message}
 use Rattle.sha256.proofs.Padding as padding
 use Rattle.lanes.specs.Lanes.{lane, end_of, Padded, spelled, digests_of}
@@ -20,9 +20,6 @@ use Rattle.lanes.proofs.Places.{before, eight, row_fits, message_fits}
 pub record AllPassed (m : List ℕ) (at step n : ℕ) (h x : List ℕ) (j : ℕ) : Type 0 where
   pub few : j ≤ n
   pub each : (l : ℕ) → l < 8 → Passed m (at + step * l) n (lane h l) (lane x l) j
-
-pub all_none : (m : List ℕ) (at step n : ℕ) (h : List ℕ) → AllPassed m at step n h h 0
-all_none m at step n h = record { few = omega arith; each = λ l k. passed_none m (at + step * l) n (lane h l) }
 
 pub all_more : (m : List ℕ) (at step n : ℕ) (h x y : List ℕ) (j : ℕ) → j < n
     → ((l : ℕ) → l < 8 → lane y l ≡ compress (lane x l) (part m (at + 64 * j + step * l) 64)) → AllPassed m at step n h x j
@@ -177,9 +174,6 @@ padded-more m at step n bits k b b' h i j e p =
           ∙ p.rest l (omega arith) z;
     })
 
-pub padded-all : {m b : List ℕ} {at step n bits k : ℕ} → 8 ≤ k → Padded m at step n bits k b → Padded m at step n bits 8 b
-padded-all {m} {b} {at} {step} {n} {bits} {k} h p = let e : k ≡ 8 = omega (arith, p.few) in rw e at p
-
 -- blocks at a place of a list are those of any part there that holds them
 hashed-within : (n : ℕ) (s : List ℕ) (at w : ℕ) (h : List ℕ) → 64 * n ≤ w → at + w ≤ length s → hashed n s at h ≡ hashed n (part s at w) 0 h
 hashed-within n s at w h k l =
@@ -268,9 +262,6 @@ front-more xs c d x one d' l i j more n q g s =
       front = ap₂ take z w ∙ take-written d (32 * l) x 32 (omega (arith, s.size)) n ∙ ap (λ (t : List ℕ). t ++ x) s.front ∙ sym (ap xs y ∙ more);
     }
 
-pub front-all : (xs : ℕ → List ℕ) (c : ℕ) (d : List ℕ) (k : ℕ) → c ≤ k → Front xs c d k → take (32 * c) d ≡ xs c
-front-all xs c d k h s = let e : k ≡ c = omega (arith, s.few) in rw e at s.front
-
 -- the hash values as bytes
 abbrev pub Spelling : List ℕ → List ℕ → ℕ → Type 0
 Spelling h = Front (λ (k : ℕ). spelled k h) 8
@@ -284,9 +275,6 @@ pub spelling_more : (h d one v d' : List ℕ) (l : ℕ) → l < 8 → v ≡ lane
 unfolding spelled
 spelling_more h d one v d' l i e f g s =
     front-more (λ (k : ℕ). spelled k h) 8 d (bytes (lane h l)) one d' l i (omega arith) refl (length-lane h l) (f ∙ ap bytes e) g s
-
-pub spelling_all : (h d : List ℕ) (k : ℕ) → 8 ≤ k → Spelling h d k → d ≡ spelled 8 h
-spelling_all h d k l s = sym (take_all (32 * 8) d (omega (arith, s.size))) ∙ front-all (λ (k : ℕ). spelled k h) 8 d k l s
 
 -- the digests of the first messages
 abbrev pub Digested : List ℕ → ℕ → ℕ → ℕ → List ℕ → ℕ → Type 0

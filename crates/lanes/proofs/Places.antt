@@ -2,7 +2,7 @@
 use Rattle.std.proofs.Common.{◌≡◌, ℕ, ◌+◌, ◌*◌, ◌/◌, ◌<◌, ◌≤◌, List, [], ◌∷◌, length, get_or, set, sym, refl, ap, ◌∙◌, ap₂, ⊎_elim, eq-or-lt_of_le, mul-le-mul_left, arith, length-set, get_or-set_other, get_or-set_same, below_more}
 use Rattle.fields.specs.Fields.{field}
 use Rattle.sha256.specs.Sha256.{◌⊞◌, round}
-use Rattle.lanes.specs.Lanes.{word_on, state_at, Loaded, Spread, Begun, Turned, Added}
+use Rattle.lanes.specs.Lanes.{word_on, state_at, Loaded, Spread, Turned, Added}
 
 -- ---- a store, seen from a place
 
@@ -24,9 +24,6 @@ eight a b c d e f g h = cc
 
 pub loaded_none : (m : List ℕ) (at step : ℕ) (w : List ℕ) → length w ≡ 512 → Loaded m at step 0 w
 loaded_none m at step w e = record { size = e; same = λ t l h k. absurd (let z : ⊥ = omega arith in z) }
-
-pub loaded_place : {m w : List ℕ} {at step n : ℕ} (i : ℕ) → n ≡ i → Loaded m at step n w → Loaded m at step i w
-loaded_place i e k = rw e at k
 
 pub loaded_more : (m : List ℕ) (at step : ℕ) (w : List ℕ) (t l x : ℕ) → t < 16 → l < 8 → x ≡ field 4 m (at + step * l + 4 * t)
     → Loaded m at step (8 * t + l) w → Loaded m at step (8 * t + (l + 1)) (set w (8 * t + l) x)
@@ -65,9 +62,6 @@ spread_more w₀ w i x h e s =
           (get_or-set_same w (i + 128) x 0 (omega (arith, s.size)) ∙ e ∙ sym (word_kept w i (i + 128) x (omega arith)));
     }
 
-pub spread_all : {w₀ w : List ℕ} {n : ℕ} → 384 ≤ n → Spread w₀ n w → Spread w₀ 384 w
-spread_all {w₀} {w} {n} h s = let e : n ≡ 384 = omega (arith, s.few) in rw e at s
-
 -- ---- the rounds
 
 state_kept : (a e : List ℕ) (i n x y : ℕ) → i + 24 < n → state_at (set a n x) (set e n y) i ≡ state_at a e i
@@ -97,17 +91,6 @@ state_round : (a e r : List ℕ) (i k w : ℕ) → r ≡ round (state_at a e i) 
 unfolding state_at round
 state_round a e r i k w h = eight (ap (λ (z : List ℕ). get_or z 0 0) h) refl refl refl (ap (λ (z : List ℕ). get_or z 4 0) h) refl refl refl
 
-pub turned_none : (k w a e : List ℕ) → length a ≡ 544 → length e ≡ 544 → Turned k w a e 0 a e
-turned_none k w a e p q =
-    record {
-      few = omega arith;
-      size_a = p;
-      size_e = q;
-      front_a = λ i h. refl;
-      front_e = λ i h. refl;
-      rule = λ i h. absurd (let z : ⊥ = omega arith in z);
-    }
-
 pub turned_more : (k w a₀ e₀ a e v r : List ℕ) (i : ℕ) → i < 512 → v ≡ state_at a e i → r ≡ round v (get_or k (i / 8) 0) (get_or w i 0)
     → Turned k w a₀ e₀ i a e → Turned k w a₀ e₀ (i + 1) (set a (i + 32) (get_or r 0 0)) (set e (i + 32) (get_or r 4 0))
 turned_more k w a₀ e₀ a e v r i h f g s =
@@ -130,28 +113,7 @@ turned_more k w a₀ e₀ a e v r i h f g s =
           ∙ sym (ap (λ (z : List ℕ). round z (get_or k (i / 8) 0) (get_or w i 0)) (state_kept a e i (i + 32) x y (omega arith))));
     }
 
-pub turned-all : {k w a₀ e₀ a e : List ℕ} {n : ℕ} → 512 ≤ n → Turned k w a₀ e₀ n a e → Turned k w a₀ e₀ 512 a e
-turned-all {k} {w} {a₀} {e₀} {a} {e} {n} h s = let q : n ≡ 512 = omega (arith, s.few) in rw q at s
-
 -- ---- the beginning and the sums
-
-pub begun_none : (h : List ℕ) (from : ℕ) (a : List ℕ) → length a ≡ 544 → Begun h from 0 a
-begun_none h from a e = record { few = omega arith; size = e; same = λ i l. absurd (let z : ⊥ = omega arith in z) }
-
-pub begun_more : (h : List ℕ) (from : ℕ) (a : List ℕ) (i : ℕ) → i < 32 → Begun h from i a → Begun h from (i + 1) (set a i (get_or h (from + i) 0))
-begun_more h from a i l b =
-    let x = get_or h (from + i) 0 in
-    record {
-      few = omega arith;
-      size = length-set a i x ∙ b.size;
-      same =
-          below_more (λ (j : ℕ). get_or (set a i x) j 0 ≡ get_or h (from + j) 0) i
-          (λ (j : ℕ) (k : j < i). before a i j x k ∙ b.same j k)
-          (get_or-set_same a i x 0 (omega (arith, b.size)));
-    }
-
-pub begun_all : {h a : List ℕ} {from n : ℕ} → 32 ≤ n → Begun h from n a → Begun h from 32 a
-begun_all {h} {a} {from} {n} l b = let e : n ≡ 32 = omega (arith, b.few) in rw e at b
 
 pub added_none : (h a e r : List ℕ) → length r ≡ 64 → Added h a e 0 r
 added_none h a e r l =

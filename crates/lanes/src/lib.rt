@@ -9,8 +9,6 @@ ghost use Rattle.sha256.specs.Sha256.{H0, compress, hashed};
 ghost use Rattle.sha256.specs.State.{ending};
 ghost use Rattle.lanes.specs.Lanes.{word_on, state_at, lane, Loaded, Spread, Begun, Turned, Added, end_of, Padded, spelled, digests_of};
 
-use std::num::wrapping_add_u32;
-
 // ---- the schedule
 
 // The word sixteen rows after a place.
@@ -18,20 +16,18 @@ fn next_word(w: &[u32; 512], i: usize) -> u32
     requires { i < 384 }
     ensures { result ≡ word_on w.now i }
 {
-    let s = wrapping_add_u32(sha256::small_sigma1(w[i + 112]), w[i + 72]);
-    let s = wrapping_add_u32(s, sha256::small_sigma0(w[i + 8]));
-    wrapping_add_u32(s, w[i])
+    let s = sha256::small_sigma1(w[i + 112]).wrapping_add(w[i + 72]);
+    let s = s.wrapping_add(sha256::small_sigma0(w[i + 8]));
+    s.wrapping_add(w[i])
 }
 
 fn extend(w: &mut [u32; 512])
     requires { length w.old ≡ 512 }
     ensures { Spread w.old 384 w.new }
 {
-    let mut i: usize = 0;
-    while i < 384 {
+    for i in 0..384 {
         let x = next_word(w, i);
         w[i + 128] = x;
-        i += 1;
     }
 }
 
@@ -40,11 +36,9 @@ fn load_row(w: &mut [u32; 512], m: &[u8], at: usize, step: usize, t: usize)
     requires { Loaded m.now at step (8 * t) w.old × ((t < 16) × (at + step * 7 + 64 ≤ length m.now)) }
     ensures { Loaded m.now at step (8 * t + 8) w.new }
 {
-    let mut l: usize = 0;
-    while l < 8 {
+    for l in 0..8 {
         let x = fields::get_u32(m, at + step * l + 4 * t);
         w[8 * t + l] = x;
-        l += 1;
     }
 }
 
@@ -52,10 +46,8 @@ fn load(w: &mut [u32; 512], m: &[u8], at: usize, step: usize)
     requires { (length w.old ≡ 512) × (at + step * 7 + 64 ≤ length m.now) }
     ensures { Loaded m.now at step 128 w.new }
 {
-    let mut t: usize = 0;
-    while t < 16 {
+    for t in 0..16 {
         load_row(w, m, at, step, t);
-        t += 1;
     }
 }
 
@@ -83,13 +75,11 @@ fn turn(a: &mut [u32; 544], e: &mut [u32; 544], w: &[u32; 512], k: &[u32; 64])
     requires { (length a.old ≡ 544) × (length e.old ≡ 544) }
     ensures { Turned k.now w.now a.old e.old 512 a.new e.new }
 {
-    let mut i: usize = 0;
-    while i < 512 {
+    for i in 0..512 {
         let v = variables(a, e, i);
         let r = sha256::one_round(v, k[i / 8], w[i]);
         a[i + 32] = r[0];
         e[i + 32] = r[4];
-        i += 1;
     }
 }
 
@@ -99,10 +89,8 @@ fn begin(a: &mut [u32; 544], h: [u32; 64], from: usize)
     requires { (length a.old ≡ 544) × (from ≤ 32) }
     ensures { Begun h from 32 a.new }
 {
-    let mut i: usize = 0;
-    while i < 32 {
+    for i in 0..32 {
         a[i] = h[from + i];
-        i += 1;
     }
 }
 
@@ -110,11 +98,9 @@ fn added(h: [u32; 64], a: &[u32; 544], e: &[u32; 544]) -> [u32; 64]
     ensures { Added h a.now e.now 32 result }
 {
     let mut r = [0u32; 64];
-    let mut i: usize = 0;
-    while i < 32 {
-        r[i] = wrapping_add_u32(h[i], a[i + 512]);
-        r[i + 32] = wrapping_add_u32(h[i + 32], e[i + 512]);
-        i += 1;
+    for i in 0..32 {
+        r[i] = h[i].wrapping_add(a[i + 512]);
+        r[i + 32] = h[i + 32].wrapping_add(e[i + 512]);
     }
     r
 }
@@ -148,11 +134,9 @@ fn blocks(
     ensures { (l : ℕ) → l < 8 → lane result l ≡ hashed n m.now (at + step * l) (lane h l) }
 {
     let mut x = h;
-    let mut j: usize = 0;
-    while j < n {
+    for j in 0..n {
         let next = compressed(x, m, at + 64 * j, step, constants);
         x = next;
-        j += 1;
     }
     x
 }
@@ -163,10 +147,8 @@ fn initial() -> [u32; 64]
 {
     let h = sha256::initial();
     let mut r = [0u32; 64];
-    let mut i: usize = 0;
-    while i < 64 {
+    for i in 0..64 {
         r[i] = h[4 * (i / 32) + (3 - i / 8 % 4)];
-        i += 1;
     }
     r
 }
@@ -187,10 +169,8 @@ fn pad_ends(b: &mut [u8; 1024], m: &[u8], at: usize, step: usize, n: usize, bits
     requires { (b.old ≡ replicate 1024 0) × ((n < 64) × (at + step * 7 + n ≤ length m.now)) }
     ensures { Padded m.now at step n bits 8 b.new }
 {
-    let mut l: usize = 0;
-    while l < 8 {
+    for l in 0..8 {
         pad_one(b, l, m, at + step * l, n, bits);
-        l += 1;
     }
 }
 
@@ -234,11 +214,9 @@ fn value_bytes(h: [u32; 64]) -> [u8; 256]
     ensures { result ≡ spelled 8 h }
 {
     let mut d = [0u8; 256];
-    let mut l: usize = 0;
-    while l < 8 {
+    for l in 0..8 {
         let one = sha256::word_bytes(words_of(h, l));
         fields::copy(&mut d, 32 * l, &one, 0, 32);
-        l += 1;
     }
     d
 }
@@ -268,27 +246,15 @@ fn one_by_one(m: &[u8], step: usize, n: usize, count: usize, constants: &[u32; 6
     ensures { take (32 * count) result ≡ digests_of count m.now step n }
 {
     let mut d = [0u8; 256];
-    let mut l: usize = 0;
-    while l < count {
+    for l in 0..count {
         let one = sha256::digest(&m[step * l..step * l + n], constants);
         fields::copy(&mut d, 32 * l, &one, 0, 32);
-        l += 1;
     }
     d
 }
 
 // So many messages are hashed side by side.
 pub const LANES: usize = 8;
-
-// How many of the messages that are left are hashed together.
-pub fn together(left: usize) -> usize
-    ensures { (result ≤ 8) × (result ≤ left) × (0 < left → 0 < result) }
-{
-    if left < LANES {
-        return left;
-    }
-    LANES
-}
 
 // From so many messages on, eight lanes take less time than one message after the other, though some of them are idle.
 const WORTHWHILE: usize = 5;

@@ -7,6 +7,8 @@ use native.Mathlib.Omega.{arith}
 use borrow.Author.Count.{below_more}
 use lib.Dec.{T, lit≤}
 use lib.ListN.{length, get_or, take}
+use lib.Seq.{get_or-take}
+use Rattle.std.proofs.Common.{length-take-le}
 use Rattle.fields.specs.Fields.{part, field, written}
 use Rattle.fields.proofs.Places.{length_part, length-written, written-whole}
 use Rattle.sha256.specs.Sha256.{sha256}
@@ -127,3 +129,21 @@ filling-all work work' from count l digests h k f = let e : l ≡ count = omega 
 pub leaves_kept : (work work' : Bytes) (slots : List ℕ) (count from : ℕ) (d : Bytes) → ((l : ℕ) → l < count → part d (32 * l) 32 ≡ leaf_digest work (get_or slots l 0))
     → Filling work from d count work' → LeavesKept work slots count from work'
 leaves_kept work work' slots count from d e f = record { kept = f.kept; here = λ l h. f.here l h ∙ e l h; others = f.others }
+
+-- ---- the first of some slots
+
+module _ (slots : List ℕ) (k : ℕ) (h : k ≤ length slots) where
+  pub first_number : length (take k slots) ≡ k
+  first_number = length-take-le k slots h
+
+  pub first_slots : (work : Bytes) → Slots work slots k → Slots work (take k slots) (length (take k slots))
+  first_slots work s =
+      record { inside = λ l j. let i : l < k = omega (arith, first_number) in omega (arith, get_or-take k slots l 0 i, s.inside l i) }
+
+  pub first_kept : (work : Bytes) (from : ℕ) (work' : Bytes) → LeavesKept work (take k slots) (length (take k slots)) from work' → LeavesKept work slots k from work'
+  first_kept work from work' L =
+      record {
+        kept = L.kept;
+        here = λ l j. L.here l (omega (arith, first_number)) ∙ ap (leaf_digest work) (get_or-take k slots l 0 j);
+        others = λ j o. L.others j (⊎_elim (λ (z : j < from). inl z) (λ (z : from + k ≤ j). inr (omega (arith, first_number))) o);
+      }

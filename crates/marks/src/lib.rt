@@ -31,10 +31,8 @@ pub fn clear_marks(work: &mut [u8], n: usize)
     requires { slot_width * n ≤ length work.old }
     ensures { Unmarked work.old work.new n }
 {
-    let mut i: usize = 0;
-    while i < n {
+    for i in 0..n {
         set_mark(work, i, false);
-        i += 1;
     }
 }
 

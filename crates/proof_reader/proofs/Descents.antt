@@ -16,9 +16,9 @@ use Rattle.proof_reader.specs.declared.Stop.TheVariants.{NotYet, NoneSoLate}
 use Rattle.proof_reader.specs.Walks.{side_of, stop_of}
 
 module _ (answer : Bytes) (tree s least : ℕ) (l : least ≡ field 8 answer tree) (b : Bool) (below : b ≡ ltb s least) where
-  pub below-least : b ≡ true → true ≡ (by_entity s).stops (subtree_in answer tree)
+  pub below-least : b ≡ true → b ≡ (by_entity s).stops (subtree_in answer tree)
   unfolding by_entity subtree_in
-  below-least e = simp (sym l, sym below ∙ e)
+  below-least e = e ∙ simp (sym l, sym below ∙ e)
 
   pub above-greatest : b ≡ false → (greatest : ℕ) → greatest ≡ field 8 answer (tree + 8) → (r : Bool) → r ≡ ltb greatest s
       → r ≡ (by_entity s).stops (subtree_in answer tree)
@@ -51,29 +51,37 @@ module _ (answer : Bytes) (r : Relation) where
     ahead_stop t = ap (λ (x : ℕ). NoneSoLate (record { 0 = x })) g ∙ ap (λ (x : Relation). stop_of ((rules x t).stop_at (subtree_in answer tree))) (sym ahead)
 
 -- "going left if s is at most the left's greatest key, else right": by an entity, and by a time looking ahead
-module _ (answer : Bytes) (at s greatest : ℕ) (g : greatest ≡ field 8 answer (at + 1 + 8)) (b : Bool) (above : b ≡ ltb greatest s) where
-  pub entity-right : b ≡ true → at + 49 ≡ side_of (by_entity s) answer at
-  unfolding side_of by_entity subtree_in
-  entity-right e = simp (sym g, lt-leb s greatest (ltb-true greatest s (sym above ∙ e)))
+module _ (answer : Bytes) (at s left greatest : ℕ) (l : left ≡ at + 1) (g : greatest ≡ field 8 answer (left + 8)) (b : Bool) (above : b ≡ ltb greatest s) where
+  greatest_is : greatest ≡ field 8 answer (at + 1 + 8)
+  greatest_is = g ∙ ap (λ (n : ℕ). field 8 answer (n + 8)) l
 
-  pub entity-left : b ≡ false → at + 1 ≡ side_of (by_entity s) answer at
+  pub entity-right : b ≡ true → (right : ℕ) → right ≡ at + 49 → right ≡ side_of (by_entity s) answer at
   unfolding side_of by_entity subtree_in
-  entity-left e = simp (sym g, le-leb s greatest (ltb-false greatest s (sym above ∙ e)))
+  entity-right e right r = r ∙ simp (sym greatest_is, lt-leb s greatest (ltb-true greatest s (sym above ∙ e)))
 
-  pub ahead_right : (r : Relation) → r ≡ AtOrAfter → b ≡ true → at + 49 ≡ side_of (rules r s) answer at
+  pub entity-left : b ≡ false → left ≡ side_of (by_entity s) answer at
+  unfolding side_of by_entity subtree_in
+  entity-left e = l ∙ simp (sym greatest_is, le-leb s greatest (ltb-false greatest s (sym above ∙ e)))
+
+  pub ahead_right : (r : Relation) → r ≡ AtOrAfter → b ≡ true → (right : ℕ) → right ≡ at + 49 → right ≡ side_of (rules r s) answer at
   unfolding side_of by_entity by_time relation_of
-  ahead_right r ahead e = entity-right e ∙ ap (λ (x : Relation). side_of (rules x s) answer at) (sym ahead)
+  ahead_right r ahead e right k = entity-right e right k ∙ ap (λ (x : Relation). side_of (rules x s) answer at) (sym ahead)
 
-  pub ahead_left : (r : Relation) → r ≡ AtOrAfter → b ≡ false → at + 1 ≡ side_of (rules r s) answer at
+  pub ahead_left : (r : Relation) → r ≡ AtOrAfter → b ≡ false → left ≡ side_of (rules r s) answer at
   unfolding side_of by_entity by_time relation_of
   ahead_left r ahead e = entity-left e ∙ ap (λ (x : Relation). side_of (rules x s) answer at) (sym ahead)
 
 -- "going right if t is at least the right's least key, else left"
-module _ (answer : Bytes) (at t least : ℕ) (l : least ≡ field 8 answer (at + 49)) (b : Bool) (below : b ≡ ltb t least) (r : Relation) (back : r ≡ AtOrBefore) where
-  pub back_left : b ≡ true → at + 1 ≡ side_of (rules r t) answer at
-  unfolding side_of by_time subtree_in relation_of
-  back_left e = simp (back, sym l, lt-leb least t (ltb-true t least (sym below ∙ e)))
+module _ (answer : Bytes) (at t right least : ℕ) (k : right ≡ at + 49) (l : least ≡ field 8 answer right) (b : Bool) (below : b ≡ ltb t least) (r : Relation)
+    (back : r ≡ AtOrBefore)
+  where
+    least_is : least ≡ field 8 answer (at + 49)
+    least_is = l ∙ ap (field 8 answer) k
 
-  pub back_right : b ≡ false → at + 49 ≡ side_of (rules r t) answer at
-  unfolding side_of by_time subtree_in relation_of
-  back_right e = simp (back, sym l, le-leb least t (ltb-false t least (sym below ∙ e)))
+    pub back_left : b ≡ true → (left : ℕ) → left ≡ at + 1 → left ≡ side_of (rules r t) answer at
+    unfolding side_of by_time subtree_in relation_of
+    back_left e left h = h ∙ simp (back, sym least_is, lt-leb least t (ltb-true t least (sym below ∙ e)))
+
+    pub back_right : b ≡ false → right ≡ side_of (rules r t) answer at
+    unfolding side_of by_time subtree_in relation_of
+    back_right e = k ∙ simp (back, sym least_is, le-leb least t (ltb-false t least (sym below ∙ e)))

@@ -4,7 +4,7 @@ use mathlib.Core.Path.{◌≡◌, sym, ap, ◌∙◌, subst}
 use Prim.Native.Nat.{ℕ, ◌+◌}
 use lib.ListN.{take, drop}
 use Rattle.model.specs.Numbers.{Bytes}
-use Rattle.model.specs.Result.{Result, refuse, ◌>>=◌}
+use Rattle.model.specs.Result.{Result, ◌>>=◌}
 use Rattle.model.specs.Accumulator.{Leaf}
 use Rattle.model.specs.Question as model
 use Rattle.model.specs.Question.{Part, SearchEnd}
@@ -12,59 +12,51 @@ use Rattle.model.specs.CheckRows.{CheckedProof, stopped as ended, leaf_in, check
 use Rattle.model.specs.Calls.{verdict_of}
 use Rattle.model.proofs.Outcomes.{bind_eq}
 use Rattle.model.proofs.CheckSteps.{bare, without-opened, end-without, verdict-without}
+use Rattle.std.specs.Prelude.{Ok, Err}
+use Rattle.outcome.specs.declared.Refusal.{Refusal}
 use Rattle.proof_reader.specs.declared.Stop.{Stop}
 use Rattle.proof_reader.specs.declared.Proof.{Proof}
-use Rattle.proof_reader.specs.declared.Proof.TheVariants.{Stopped, Found, Refused}
+use Rattle.proof_reader.specs.declared.Proof.TheVariants.{Stopped, Found}
 use Rattle.proof_reader.specs.declared.ListProof.{ListProof}
-use Rattle.proof_reader.specs.declared.ListProof.TheVariants.{NoEntity, Listed as ToList, Refused as Unlisted}
-use Rattle.proof_reader.specs.Walks.{stop_of, Gives, ProofIs, stopped, found, refused}
+use Rattle.proof_reader.specs.declared.ListProof.TheVariants.{NoEntity, Listed as ToList}
+use Rattle.proof_reader.specs.Walks.{RefusedBy, stop_of, Gives, ProofIs, stopped, found, refused}
 use Rattle.proof_reader.specs.Spans.{ListStrings, ListIs, without, lists, unlisted}
 
 -- ---- by the reader's answer
 
-module _ (answer : Bytes) (m : Result CheckedProof) (r : Proof) (P : ProofIs answer m r) where
-  answer-is : (x : Proof) → r ≡ x → ProofIs answer m x
-  answer-is x q = subst (λ (y : Proof). ProofIs answer m y) q P
-
-  pub stopped-is : (s : Stop) (at : ℕ) → r ≡ Stopped s at → (e : model.Stop) × (s ≡ stop_of e) × Gives answer m (SearchEnd.not_found e) at
-  stopped-is s at q = go (answer-is (Stopped s at) q)
+module _ (answer : Bytes) (m : Result CheckedProof) where
+  pub stopped-is : (x : Proof) → ProofIs answer m (Ok x) → (s : Stop) (at : ℕ) → x ≡ Stopped s at
+      → (e : model.Stop) × (s ≡ stop_of e) × Gives answer m (SearchEnd.not_found e) at
+  stopped-is x P s at q = go (subst (λ (y : Proof). ProofIs answer m (Ok y)) q P)
     where
-      go : ProofIs answer m (Stopped s at) → (e : model.Stop) × (s ≡ stop_of e) × Gives answer m (SearchEnd.not_found e) at
+      go : ProofIs answer m (Ok (Stopped s at)) → (e : model.Stop) × (s ≡ stop_of e) × Gives answer m (SearchEnd.not_found e) at
       go (stopped _ e _ k g) = (e, k, g)
 
-  pub found-is : (leaf at : ℕ) → r ≡ Found leaf at → (at ≡ leaf + 77) × Gives answer m (SearchEnd.found (leaf_in (take 77 (drop leaf answer)))) at
-  found-is leaf at q = go (answer-is (Found leaf at) q)
+  pub found-is : (x : Proof) → ProofIs answer m (Ok x) → (leaf at : ℕ) → x ≡ Found leaf at
+      → (at ≡ leaf + 77) × Gives answer m (SearchEnd.found (leaf_in (take 77 (drop leaf answer)))) at
+  found-is x P leaf at q = go (subst (λ (y : Proof). ProofIs answer m (Ok y)) q P)
     where
-      go : ProofIs answer m (Found leaf at) → (at ≡ leaf + 77) × Gives answer m (SearchEnd.found (leaf_in (take 77 (drop leaf answer)))) at
+      go : ProofIs answer m (Ok (Found leaf at)) → (at ≡ leaf + 77) × Gives answer m (SearchEnd.found (leaf_in (take 77 (drop leaf answer)))) at
       go (found _ _ e g) = (e, g)
 
-  pub refused-is : (n p : ℕ) → r ≡ Refused n p → m ≡ refuse n p
-  refused-is n p q = go (answer-is (Refused n p) q)
-    where
-      go : ProofIs answer m (Refused n p) → m ≡ refuse n p
-      go (refused _ _ e) = e
+  pub refused-is : (e : Refusal) → ProofIs answer m (Err e) → RefusedBy m e
+  refused-is e (refused _ h) = h
 
-module _ (answer : Bytes) (m : Result CheckedProof) (r : ListProof) (P : ListIs answer m r) where
-  list_is : (x : ListProof) → r ≡ x → ListIs answer m x
-  list_is x q = subst (λ (y : ListProof). ListIs answer m y) q P
-
-  pub without_is : (at : ℕ) → r ≡ NoEntity at → Gives answer m (SearchEnd.not_found model.no_entity) at
-  without_is at q = go (list_is (NoEntity at) q)
+  pub without_is : (x : ListProof) → ListIs answer m (Ok x) → (at : ℕ) → x ≡ NoEntity at → Gives answer m (SearchEnd.not_found model.no_entity) at
+  without_is x P at q = go (subst (λ (y : ListProof). ListIs answer m (Ok y)) q P)
     where
-      go : ListIs answer m (NoEntity at) → Gives answer m (SearchEnd.not_found model.no_entity) at
+      go : ListIs answer m (Ok (NoEntity at)) → Gives answer m (SearchEnd.not_found model.no_entity) at
       go (without _ g) = g
 
-  pub lists-is : (start end count : ℕ) → r ≡ ToList start end count → (l : ListStrings answer start end count) × Gives answer m (SearchEnd.listed l.leaves) end
-  lists-is start end count q = go (list_is (ToList start end count) q)
+  pub lists-is : (x : ListProof) → ListIs answer m (Ok x) → (start end count : ℕ) → x ≡ ToList start end count
+      → (l : ListStrings answer start end count) × Gives answer m (SearchEnd.listed l.leaves) end
+  lists-is x P start end count q = go (subst (λ (y : ListProof). ListIs answer m (Ok y)) q P)
     where
-      go : ListIs answer m (ToList start end count) → (l : ListStrings answer start end count) × Gives answer m (SearchEnd.listed l.leaves) end
+      go : ListIs answer m (Ok (ToList start end count)) → (l : ListStrings answer start end count) × Gives answer m (SearchEnd.listed l.leaves) end
       go (lists _ _ _ l g) = (l, g)
 
-  pub unlisted-is : (n p : ℕ) → r ≡ Unlisted n p → m ≡ refuse n p
-  unlisted-is n p q = go (list_is (Unlisted n p) q)
-    where
-      go : ListIs answer m (Unlisted n p) → m ≡ refuse n p
-      go (unlisted _ _ e) = e
+  pub unlisted-is : (e : Refusal) → ListIs answer m (Err e) → RefusedBy m e
+  unlisted-is e (unlisted _ h) = h
 
 -- ---- without the strings opened
 

@@ -9,23 +9,26 @@ use Rattle.fields.specs.Fields.{encode, field, written}
 use Rattle.fields.proofs.Numbers.{length-encode}
 use Rattle.fields.proofs.Places.{first-left, length-written, written_none, written_behind}
 use Rattle.model.specs.Numbers.{Bytes, joined}
-use Rattle.model.specs.Question.{spanned, all, within, VersionName, name_string}
+use Rattle.model.specs.Question.{SpanQuestion, all, within, VersionName, name_string}
 use Rattle.model.specs.Result.{Result}
 use Rattle.model.specs.CheckRows.{CheckedProof, subtree_in, leaf_in, leaf_name, proof_of_all, check_span, check_sought, check_proof}
 use Rattle.model.proofs.Outcomes.{bind_eq, bind_refused}
 use Rattle.model.proofs.Strings.{joined-append}
 use Rattle.model.proofs.Preorder.{few-listed, name-length, names-length}
+use Rattle.std.specs.Prelude.{Ok, Err}
+use Rattle.std.specs.Prelude as std
+use Rattle.outcome.specs.declared.Refusal.{Refusal}
+use Rattle.outcome.specs.Outcomes.{number_of}
 use Rattle.proof_reader.specs.declared.EntitySearch.{EntitySearch}
-use Rattle.proof_reader.specs.declared.EntitySearch.TheVariants.{NoEntity as ToNothing, Group as ToGroup, Refused as Unsought}
+use Rattle.proof_reader.specs.declared.EntitySearch.TheVariants.{NoEntity as ToNothing, Group as ToGroup}
 use Rattle.proof_reader.specs.declared.Span.{Span}
-use Rattle.proof_reader.specs.declared.Span.TheVariants.{Read, Refused}
 use Rattle.proof_reader.specs.declared.ListProof.{ListProof}
-use Rattle.proof_reader.specs.declared.ListProof.TheVariants.{NoEntity, Listed as ToList, Refused as Unlisted}
+use Rattle.proof_reader.specs.declared.ListProof.TheVariants.{NoEntity, Listed as ToList}
 use Rattle.proof_reader.specs.Walks.{sought_at, GoesOn, SearchIs}
 use Rattle.proof_reader.specs.Spans.{all_at, SpanIs, read, refused, Named, at_end, an_L, an_N, ListStrings, ListIs, without, lists, unlisted, Listed}
 use Rattle.proof_reader.proofs.Strings.{entity_at, time_at}
 use Rattle.proof_reader.proofs.Naming.{all_named}
-use Rattle.proof_reader.proofs.Walking.{search_refused, search_none, search_on}
+use Rattle.proof_reader.proofs.Walking.{search_is, search_refused, search_none, search_on}
 
 -- ---- one name
 
@@ -38,7 +41,7 @@ name-written answer leaf h out out1 out2 at e t r ee e1 te e2 =
     ∙ ap (λ (x : Bytes). written x (at + 4) (encode 8 t)) e1
     ∙ written_behind out at (encode 4 e) (encode 8 t) (at + 4) (omega (arith, length-encode 4 e)) (omega (arith, length-encode 8 t))
     ∙ ap (λ (x : Bytes). written out at (encode 4 e ++ x)) (sym (append-nil (encode 8 t)))
-    ∙ ap₂ (λ (x y : ℕ). written out at (name_string (record { entity = x; time = y }))) (entity_at answer leaf h e e ee refl) (time_at answer leaf h t te)
+    ∙ ap₂ (λ (x y : ℕ). written out at (name_string (record { entity = x; time = y }))) (entity_at answer leaf h e ee) (time_at answer leaf h t te)
 
 -- ---- the first of the strings
 
@@ -144,9 +147,6 @@ module _ (answer : Bytes) (start end : ℕ) (out₀ : Bytes) where
         passed : (97 ≤ length (drop next answer)) × Named (drop 97 (drop next answer)) w.left (drop end answer)
         passed = starts_N w.named shorter (λ e. letter (sym (first-left next answer 0) ∙ e))
 
-        pub N_there : next + 97 ≤ length answer
-        N_there = omega (arith, passed.0, length-drop next answer)
-
         pub none_more : Writing answer end l.names out₀ out (next + 97) at
         none_more =
             record {
@@ -166,55 +166,56 @@ can_list answer start end count room l h =
     record { names = map leaf_name l.leaves; named = l.named; inside = l.inside; fits = omega (arith, length-map l.leaves leaf_name, l.count_is) }
 
 -- all strings of an entity's tree that the times open, as the end of a proof
-module _ (answer : Bytes) (at known s from to : ℕ) (r : Span) (S : SpanIs answer (all_at (spanned s from to) 16 answer at known) r) where
-  abbrev sought : Result CheckedProof
-  sought = sought_at (all (spanned s from to)) answer at known
+module _ (answer : Bytes) (at known group : ℕ) (k : known ≡ group + 9) (p : SpanQuestion) where
+  abbrev Read : std.Result Span Refusal → Type 0
+  Read r = SpanIs answer (all_at p 16 answer at known) r
 
-  span_is : (x : Span) → r ≡ x → SpanIs answer (all_at (spanned s from to) 16 answer at known) x
-  span_is x e = subst (SpanIs answer (all_at (spanned s from to) 16 answer at known)) e S
+  abbrev Ends : std.Result ListProof Refusal → Type 0
+  Ends r = ListIs answer (sought_at (all p) answer at (group + 9)) r
 
-  pub span_refused : (n p : ℕ) → r ≡ Refused n p → ListIs answer sought (Unlisted n p)
+  ends_by : (r : std.Result ListProof Refusal) → ListIs answer (sought_at (all p) answer at known) r → Ends r
+  ends_by r l = subst (λ (n : ℕ). ListIs answer (sought_at (all p) answer at n) r) k l
+
+  pub span_refused : (e : Refusal) → Read (Err e) → Ends (Err e)
   unfolding sought_at check_sought check_span all_at
-  span_refused n p e = go (span_is (Refused n p) e)
-    where
-      go : SpanIs answer (all_at (spanned s from to) 16 answer at known) (Refused n p) → ListIs answer sought (Unlisted n p)
-      go (refused _ _ h) = unlisted n p (bind_refused _ _ n p h)
+  span_refused e (refused _ h) = ends_by (Err e) (unlisted e (bind_refused _ _ (number_of e.row) e.position h))
 
-  pub span_listed : (end count : ℕ) → r ≡ Read end count → ListIs answer sought (ToList at end count)
+  pub span_listed : (x : Span) → Read (Ok x) → Ends (Ok (ToList at x.at x.count))
   unfolding sought_at check_sought check_span all_at
-  span_listed end count e = go (span_is (Read end count) e)
-    where
-      go : SpanIs answer (all_at (spanned s from to) 16 answer at known) (Read end count) → ListIs answer sought (ToList at end count)
-      go (read _ _ w) =
-          lists at end count
-          (record {
-            leaves = w.walk.leaves;
-            named =
-                subst (Named (drop at answer) (map leaf_name w.walk.leaves)) w.rest_is
-                (all_named (within (spanned s from to)) 16 (subtree_in answer known) at (drop at answer) w.walk w.is);
-            inside = w.inside;
-            count_is = w.count_is;
-            few = subst (λ (n : ℕ). n ≤ 65536) w.count_is (few-listed (within (spanned s from to)) (subtree_in answer known) at (drop at answer) w.walk w.is);
-          })
-          (record { proof = proof_of_all w.walk; is = bind_eq _ _ w.walk w.is; end_is = refl; pos_is = w.pos_is; rest_is = w.rest_is; inside = w.inside })
+  span_listed x (read _ w) =
+      ends_by (Ok (ToList at x.at x.count))
+      (lists at x.at x.count
+      (record {
+        leaves = w.walk.leaves;
+        named =
+            subst (Named (drop at answer) (map leaf_name w.walk.leaves)) w.rest_is
+            (all_named (within p) 16 (subtree_in answer known) at (drop at answer) w.walk w.is);
+        inside = w.inside;
+        count_is = w.count_is;
+        few = subst (λ (n : ℕ). n ≤ 65536) w.count_is (few-listed (within p) (subtree_in answer known) at (drop at answer) w.walk w.is);
+      })
+      (record { proof = proof_of_all w.walk; is = bind_eq _ _ w.walk w.is; end_is = refl; pos_is = w.pos_is; rest_is = w.rest_is; inside = w.inside }))
 
-list_back : (answer : Bytes) {m n : Result CheckedProof} → GoesOn answer m n → (r : ListProof) → ListIs answer n r → ListIs answer m r
+list_back : (answer : Bytes) {m n : Result CheckedProof} → GoesOn answer m n → (r : std.Result ListProof Refusal) → ListIs answer n r → ListIs answer m r
 list_back answer w r (without at g) = without at (w.ends _ at g)
 list_back answer w r (lists start end count l g) = lists start end count l (w.ends _ end g)
-list_back answer w r (unlisted n p e) = unlisted n p (w.refuses n p e)
+list_back answer w r (unlisted x e) = unlisted x (w.refuses (number_of x.row) x.position e)
 
 -- from R down
-module _ (answer commitment : Bytes) (at letter s from to : ℕ) (r : EntitySearch)
-    (S : SearchIs answer s (λ q. check_proof letter q commitment at (drop at answer)) r)
-  where
-    abbrev Proved : ListProof → Type 0
-    Proved p = ListIs answer (check_proof letter (all (spanned s from to)) commitment at (drop at answer)) p
+module _ (answer commitment : Bytes) (at letter : ℕ) (p : SpanQuestion) where
+  abbrev Searched : std.Result EntitySearch Refusal → Type 0
+  Searched r = SearchIs answer p.entity (λ q. check_proof letter q commitment at (drop at answer)) r
 
-    pub all-refused : (n p : ℕ) → r ≡ Unsought n p → Proved (Unlisted n p)
-    all-refused n p e = unlisted n p (search_refused answer s _ r S (all (spanned s from to)) refl n p e)
+  abbrev Proved : std.Result ListProof Refusal → Type 0
+  Proved x = ListIs answer (check_proof letter (all p) commitment at (drop at answer)) x
 
-    pub all_missing : (end : ℕ) → r ≡ ToNothing end → Proved (NoEntity end)
-    all_missing end e = without end (search_none answer s _ r S (all (spanned s from to)) refl end e)
+  pub all-refused : (e : Refusal) → Searched (Err e) → Proved (Err e)
+  all-refused e S = unlisted e (search_refused answer p.entity _ (all p) refl e S)
 
-    pub all-sought : (group : ℕ) → r ≡ ToGroup group → (p : ListProof) → ((s : ℕ) → ListIs answer (sought_at (all (spanned s from to)) answer (group + 57) (group + 9)) p) → Proved p
-    all-sought group e p P = list_back answer (search_on answer s _ r S (all (spanned s from to)) refl group e) p (P s)
+  module _ (x : EntitySearch) (S : Searched (Ok x)) where
+    pub all_missing : (end : ℕ) → x ≡ ToNothing end → Proved (Ok (NoEntity end))
+    all_missing end e = without end (search_none answer p.entity _ (all p) refl end (search_is answer p.entity _ x (ToNothing end) S e))
+
+    pub all-sought : (group : ℕ) → x ≡ ToGroup group → (l : std.Result ListProof Refusal) → ListIs answer (sought_at (all p) answer (group + 57) (group + 9)) l → Proved l
+    all-sought group e l L =
+        list_back answer (search_on answer p.entity _ (all p) refl group (search_is answer p.entity _ x (ToGroup group) S e)) l L

@@ -3,68 +3,85 @@ use mathlib.Core.Path.{◌≡◌, refl, sym, ap, ap₂, ◌∙◌, subst}
 use mathlib.Core.Bool.{Bool, true, false, not, cond, ◌||◌}
 use Prim.Native.Nat.{ℕ, zero, suc, ◌+◌, ◌-◌, ◌≤◌, ◌<◌, ◌^◌}
 use native.Mathlib.Omega.{arith}
-use borrow.Author.Tests.{le-leb, lt-leb, ltb-true, ltb-false}
+use borrow.Author.Tests.{le-leb, lt-leb, eq-eqb, ne_eqb, eqb-true, ltb-true, ltb-false}
 use lib.Dec.{T, eqb, ltb, leb}
 use lib.Pow.{pow_mono}
 use lib.ListN.{length, take, drop, length-drop, length-append}
 use lib.Seq.{drop-drop}
+use Rattle.std.specs.Prelude.{Ok, Err}
+use Rattle.std.specs.Prelude as std
+use Rattle.std.proofs.Common.{is_le, nat_cmp, Less, Equal, Greater}
 use Rattle.fields.specs.Fields.{field}
 use Rattle.model.specs.Numbers.{Bytes}
-use Rattle.model.specs.Result.{Result, ok, refuse, ◌>>=◌, need}
+use Rattle.model.specs.Result.{Result, ok, ◌>>=◌, need}
 use Rattle.model.specs.Accumulator.{letter_N, branch_width, Subtree}
-use Rattle.model.specs.Question.{SpanQuestion, spanned, within}
+use Rattle.model.specs.Question.{SpanQuestion, within}
 use Rattle.model.specs.CheckRows.{take_string, subtree_in, left_in, right_in, CheckedAll, none_opened, opening_leaf, opening_both, path_limit, none_due, check_leaf, check_all}
 use Rattle.model.proofs.Outcomes.{bind_eq, bind_refused}
 use Rattle.model.proofs.Preorder.{all-few}
+use Rattle.outcome.specs.declared.Row.TheVariants.{AnswerCut, LetterNotDue}
+use Rattle.outcome.specs.declared.Refusal.{Refusal}
+use Rattle.outcome.specs.Outcomes.{number_of}
 use Rattle.proof_reader.specs.declared.Opening.{Opening}
-use Rattle.proof_reader.specs.declared.Opening.TheVariants.{Leaf as LeafTaken, Inner as InnerTaken, Refused as Unopened}
+use Rattle.proof_reader.specs.declared.Opening.TheVariants.{Leaf as LeafTaken, Inner as InnerTaken}
 use Rattle.proof_reader.specs.declared.Span.{Span}
-use Rattle.proof_reader.specs.declared.Span.TheVariants.{Read, Refused}
-use Rattle.proof_reader.specs.Walks.{Opens, at_leaf, at_inner, unopened, string_due}
-use Rattle.proof_reader.specs.Spans.{letter_due, DueOpens, due, not_due, all_at, Reads, SpanIs, read, refused, leaves_of, counted_on}
-use Rattle.proof_reader.proofs.Strings.{subtree_at}
+use Rattle.proof_reader.specs.Walks.{RefusedBy, Opens, at_leaf, at_inner, unopened, string_due}
+use Rattle.proof_reader.specs.Spans.{letter_due, DueOpens, due, not_due, all_at, Reads, SpanIs, read, refused}
+use Rattle.proof_reader.proofs.Strings.{Made, refused-as, subtree_at}
+
+differ : true ≡ false → ⊥
+differ z = subst T z tt
 
 -- ---- the two times
 
-module _ (answer : Bytes) (tree from to least : ℕ) (l : least ≡ field 8 answer tree) (b : Bool) (before : b ≡ ltb to least) where
-  pub too_late : b ≡ true → (s : ℕ) → false ≡ within (spanned s from to) (subtree_in answer tree)
-  unfolding within subtree_in
-  too_late e s = simp (sym l, lt-leb least to (ltb-true to least (sym before ∙ e)))
+at_most : (x y : ℕ) (b c : Bool) → ltb x y ≡ b → eqb x y ≡ c → is_le (cond b Less (cond c Equal Greater)) ≡ leb x y
+at_most x y true c e f = let h : x < y = ltb-true x y e in sym (le-leb x y (omega arith))
+at_most x y false true e f = let h : x ≡ y = eqb-true x y f in sym (le-leb x y (omega arith))
+at_most x y false false e f =
+    let h : y ≤ x = ltb-false x y e in
+    let d : x ≡ y → ⊥ = λ z. differ (sym (eq-eqb x y z) ∙ f) in
+    sym (lt-leb x y (omega arith))
 
-  pub in_time : b ≡ false → (greatest : ℕ) → greatest ≡ field 8 answer (tree + 8) → (c : Bool) → c ≡ ltb greatest from
-      → (s : ℕ) → not c ≡ within (spanned s from to) (subtree_in answer tree)
+pub key_at_most : (b : Bool) (x y : ℕ) → b ≡ is_le (nat_cmp x y) → b ≡ leb x y
+key_at_most b x y e = e ∙ at_most x y (ltb x y) (eqb x y) refl refl
+
+module _ (answer : Bytes) (tree : ℕ) (p : SpanQuestion) (least : ℕ) (l : least ≡ field 8 answer tree) (b : Bool) (begun : b ≡ leb least p.to) where
+  pub too_late : b ≡ false → b ≡ within p (subtree_in answer tree)
   unfolding within subtree_in
-  in_time e greatest g c early s = simp (sym l, le-leb least to (ltb-false to least (sym before ∙ e)), sym g) (reversed c early)
-    where
-      reversed : (c : Bool) → c ≡ ltb greatest from → not c ≡ leb from greatest
-      reversed true h = sym (lt-leb from greatest (ltb-true greatest from (sym h)))
-      reversed false h = sym (le-leb from greatest (ltb-false greatest from (sym h)))
+  too_late e = e ∙ simp (sym l, sym begun ∙ e)
+
+  pub in_time : b ≡ true → (greatest : ℕ) → greatest ≡ field 8 answer (tree + 8) → (c : Bool) → c ≡ leb p.from greatest → c ≡ within p (subtree_in answer tree)
+  unfolding within subtree_in
+  in_time e greatest g c early = simp (sym l, sym begun ∙ e, sym g) early
 
 -- ---- a letter that is due
 
-pub more-due : (n : ℕ) (k : Subtree) → (n ≡ 0 → ⊥) → true ≡ letter_due n k
+pub more-due : (n : ℕ) (k : Subtree) → (n ≡ 0 → ⊥) → not (eqb n 0) ≡ letter_due n k
 unfolding letter_due
-more-due n k h = simp (le-leb 1 n (omega arith))
+more-due n k h = simp (ne_eqb n 0 h, le-leb 1 n (omega arith))
+
+more : (n : ℕ) (k : Subtree) → (n ≡ 0 → ⊥) → true ≡ letter_due n k
+more n k h = ap not (sym (ne_eqb n 0 h)) ∙ more-due n k h
 
 pub leaf-due : (n : ℕ) (answer : Bytes) (tree : ℕ) → n ≡ 0 → (least greatest : ℕ) → least ≡ field 8 answer tree → greatest ≡ field 8 answer (tree + 8)
     → (b : Bool) → b ≡ eqb least greatest → b ≡ letter_due n (subtree_in answer tree)
 unfolding letter_due subtree_in
 leaf-due n answer tree z least greatest l g b same = simp (z, sym l, sym g) same
 
-differ : true ≡ false → ⊥
-differ z = subst T z tt
-
 module _ (n : ℕ) (answer : Bytes) (at : ℕ) (k : Subtree) (b : Bool) (is-due : b ≡ letter_due n k) where
-  pub due_opens : b ≡ true → (r : Opening) → Opens 76 77 78 answer at k r → DueOpens n answer at k r
+  pub due_opens : b ≡ true → (r : std.Result Opening Refusal) → Opens 76 77 78 answer at k r → DueOpens n answer at k r
   due_opens e r o = due r (sym is-due ∙ e) o
 
-  pub no_byte_there : b ≡ false → at ≡ length answer → DueOpens n answer at k (Unopened 15)
-  unfolding none_due need ◌>>=◌
-  no_byte_there e h = not_due 15 (sym is-due ∙ e) (simp (lt-leb 1 (length (drop at answer)) (omega (arith, length-drop at answer))))
+  module _ (e : b ≡ false) (r : Refusal) where
+    pub no_byte_there : at ≡ length answer → Made AnswerCut at r → DueOpens n answer at k (Err r)
+    unfolding none_due need ◌>>=◌
+    no_byte_there h made =
+        not_due r (sym is-due ∙ e) (refused-as _ AnswerCut at (simp (lt-leb 1 (length (drop at answer)) (omega (arith, length-drop at answer)))) r made)
 
-  pub no_letter_due : b ≡ false → (at ≡ length answer → ⊥) → at ≤ length answer → DueOpens n answer at k (Unopened 16)
-  unfolding none_due need ◌>>=◌
-  no_letter_due e h i = not_due 16 (sym is-due ∙ e) (simp (le-leb 1 (length (drop at answer)) (omega (arith, length-drop at answer))))
+    pub no_letter_due : (at ≡ length answer → ⊥) → at ≤ length answer → Made LetterNotDue at r → DueOpens n answer at k (Err r)
+    unfolding none_due need ◌>>=◌
+    no_letter_due h i made =
+        not_due r (sym is-due ∙ e) (refused-as _ LetterNotDue at (simp (le-leb 1 (length (drop at answer)) (omega (arith, length-drop at answer)))) r made)
 
 -- ---- the check of a known subtree, by the tests
 
@@ -83,7 +100,7 @@ module _ (p : SpanQuestion) (k : Subtree) (pos : ℕ) (x : Bytes) where
     at_none : (n : ℕ) → letter_due n k ≡ false → check_all (within p) n k pos x ≡ none_due pos x
     unfolding check_all letter_due
     at_none zero e = simp (opens, e)
-    at_none (suc n) e = absurd (differ (more-due (suc n) k (λ z. omega arith) ∙ e))
+    at_none (suc n) e = absurd (differ (more (suc n) k (λ z. omega arith) ∙ e))
 
     -- what is left after a string N
     at_two : (n : ℕ) → letter_due n k ≡ true → eqb k.least k.greatest ≡ false
@@ -104,29 +121,14 @@ module _ (p : SpanQuestion) (k : Subtree) (pos : ℕ) (x : Bytes) where
         ok (opening_both s a b))
         (let z : n ≡ suc n - 1 = omega arith in z))
 
--- ---- counts
-
-module _ (count : ℕ) (span : Span) where
-  pub count-read : (at more : ℕ) → span ≡ Read at more → Read at (count + more) ≡ counted_on count span
-  unfolding counted_on
-  count-read at more e = ap (counted_on count) (sym e)
-
-  pub count-refused : (number position : ℕ) → span ≡ Refused number position → Refused number position ≡ counted_on count span
-  unfolding counted_on
-  count-refused number position e = ap (counted_on count) (sym e)
-
-  pub count_fits : (at more : ℕ) → span ≡ Read at more → count + leaves_of span ≤ 131072 → count + more ≤ 131072
-  unfolding leaves_of
-  count_fits at more e h = subst (λ (s : Span). count + leaves_of s ≤ 131072) e h
-
 -- ---- the walk
 
-module _ (n : ℕ) (answer : Bytes) (at : ℕ) (k : Subtree) (r : Opening) (o : DueOpens n answer at k r) where
-  opening-is : (x : Opening) → r ≡ x → DueOpens n answer at k x
-  opening-is x e = subst (DueOpens n answer at k) e o
+module _ (n : ℕ) (answer : Bytes) (at : ℕ) (k : Subtree) (x : Opening) (o : DueOpens n answer at k (Ok x)) where
+  opening-is : (y : Opening) → x ≡ y → DueOpens n answer at k (Ok y)
+  opening-is y e = subst (λ (z : Opening). DueOpens n answer at k (Ok z)) e o
 
   -- behind a string N its halves are there, and their paths have one N less
-  pub inner_there : r ≡ InnerTaken → (at + 97 ≤ length answer) × (0 < n)
+  pub inner_there : x ≡ InnerTaken → (at + 97 ≤ length answer) × (0 < n)
   unfolding letter_due
   inner_there e = go (opening-is InnerTaken e)
     where
@@ -134,158 +136,137 @@ module _ (n : ℕ) (answer : Bytes) (at : ℕ) (k : Subtree) (r : Opening) (o : 
       some zero d g = absurd (differ (sym d ∙ g))
       some (suc n) d g = omega arith
 
-      go : DueOpens n answer at k InnerTaken → (at + 97 ≤ length answer) × (0 < n)
+      go : DueOpens n answer at k (Ok InnerTaken) → (at + 97 ≤ length answer) × (0 < n)
       go (due _ d (at_inner g q)) = (q.inside, some n d g)
 
-pub few-leaves : (p : SpanQuestion) (n : ℕ) (answer : Bytes) (at known : ℕ) (r : Span) → SpanIs answer (all_at p n answer at known) r → leaves_of r ≤ 2 ^ n
-unfolding all_at leaves_of
-few-leaves p n answer at known r (read end count g) =
-    subst (λ (c : ℕ). c ≤ 2 ^ n) g.count_is (all-few (within p) n (subtree_in answer known) at (drop at answer) g.walk g.is)
-few-leaves p n answer at known r (refused number position e) = omega arith
+module _ (p : SpanQuestion) (n : ℕ) (answer : Bytes) (at known : ℕ) where
+  pub all_read : (x : Span) → SpanIs answer (all_at p n answer at known) (Ok x) → Reads answer (all_at p n answer at known) x.at x.count
+  all_read x (read _ g) = g
 
-pub middle_there : (p : SpanQuestion) (n : ℕ) (answer : Bytes) (at known : ℕ) (r : Span) → SpanIs answer (all_at p n answer at known) r
-    → (middle count : ℕ) → r ≡ Read middle count → middle ≤ length answer
-middle_there p n answer at known r h middle count e = go (subst (SpanIs answer (all_at p n answer at known)) e h)
-  where
-    go : SpanIs answer (all_at p n answer at known) (Read middle count) → middle ≤ length answer
-    go (read _ _ g) = g.inside
+  few-leaves : (x : Span) → SpanIs answer (all_at p n answer at known) (Ok x) → x.count ≤ 2 ^ n
+  unfolding all_at
+  few-leaves x (read _ g) = subst (λ (c : ℕ). c ≤ 2 ^ n) g.count_is (all-few (within p) n (subtree_in answer known) at (drop at answer) g.walk g.is)
 
 -- at most 16 N on a path: no sum of counts is large
-pub counts_fit : (p : SpanQuestion) (n : ℕ) (answer : Bytes) (at known middle count : ℕ) (r1 : Span) → SpanIs answer (all_at p (n - 1) answer at known) r1 → r1 ≡ Read middle count
-    → (next right : ℕ) (r2 : Span) → SpanIs answer (all_at p (n - 1) answer next right) r2 → n ≤ path_limit → count + leaves_of r2 ≤ 131072
-unfolding leaves_of
-counts_fit p n answer at known middle count r1 h1 e next right r2 h2 h =
-    let a = subst (λ (r : Span). leaves_of r ≤ 2 ^ (n - 1)) e (few-leaves p (n - 1) answer at known r1 h1) in
-    let b = few-leaves p (n - 1) answer next right r2 h2 in
+pub counts_fit : (p : SpanQuestion) (n : ℕ) (answer : Bytes) (at known : ℕ) (x : Span) → SpanIs answer (all_at p (n - 1) answer at known) (Ok x)
+    → (next right : ℕ) (y : Span) → SpanIs answer (all_at p (n - 1) answer next right) (Ok y) → n ≤ path_limit → x.count + y.count ≤ 131072
+counts_fit p n answer at known x h1 next right y h2 h =
+    let a = few-leaves p (n - 1) answer at known x h1 in
+    let b = few-leaves p (n - 1) answer next right y h2 in
     let m : n - 1 ≤ 16 = omega arith in
     let c : 2 ^ (n - 1) ≤ 2 ^ 16 = pow_mono m in
     omega arith
 
-flipped : (b c : Bool) → not b ≡ not c → b ≡ c
-flipped true true e = refl
-flipped true false e = sym e
-flipped false true e = sym e
-flipped false false e = refl
-
 module _ (p : SpanQuestion) (n : ℕ) (answer : Bytes) (at known : ℕ) (b : Bool) (tested : b ≡ within p (subtree_in answer known)) where
-  abbrev Here : Span → Type 0
+  abbrev Here : std.Result Span Refusal → Type 0
   Here r = SpanIs answer (all_at p n answer at known) r
 
-  pub shut_here : not b ≡ true → at ≤ length answer → Here (Read at 0)
+  pub shut_here : b ≡ false → at ≤ length answer → Here (Ok (record { at = at; count = 0 }))
   unfolding all_at
   shut_here e h =
-      read at 0
+      read (record { at = at; count = 0 })
       (record {
         walk = none_opened at (drop at answer);
-        is = at_shut p (subtree_in answer known) at (drop at answer) n (sym tested ∙ flipped b false e);
+        is = at_shut p (subtree_in answer known) at (drop at answer) n (sym tested ∙ e);
         pos_is = refl;
         rest_is = refl;
         count_is = refl;
         inside = h;
       })
 
-  module _ (goes : not b ≡ false) (r : Opening) (o : DueOpens n answer at (subtree_in answer known) r) where
+  module _ (goes : b ≡ true) where
     opens : within p (subtree_in answer known) ≡ true
-    opens = sym tested ∙ flipped b true goes
+    opens = sym tested ∙ goes
 
-    pub halts_here : (number : ℕ) → r ≡ Unopened number → Here (Refused number at)
+    pub halts_here : (x : Refusal) → DueOpens n answer at (subtree_in answer known) (Err x) → Here (Err x)
     unfolding all_at check_leaf string_due
-    halts_here number e = refused number at (go (opening-is n answer at (subtree_in answer known) r o (Unopened number) e))
+    halts_here x o = refused x (go o)
       where
         k : Subtree
         k = subtree_in answer known
 
         by_keys : letter_due n k ≡ true → (c : Bool) → eqb k.least k.greatest ≡ c
-            → cond c (take_string 76 77 k.digest at (drop at answer)) (take_string 78 97 k.digest at (drop at answer)) ≡ refuse number at
-            → check_all (within p) n k at (drop at answer) ≡ refuse number at
-        by_keys d true g h = at_one p k at (drop at answer) opens n g ∙ bind_refused _ _ number at h
-        by_keys d false g h = at_two p k at (drop at answer) opens n d g ∙ bind_refused _ _ number at h
+            → RefusedBy (cond c (take_string 76 77 k.digest at (drop at answer)) (take_string 78 97 k.digest at (drop at answer))) x
+            → RefusedBy (check_all (within p) n k at (drop at answer)) x
+        by_keys d true g h = at_one p k at (drop at answer) opens n g ∙ bind_refused _ _ (number_of x.row) x.position h
+        by_keys d false g h = at_two p k at (drop at answer) opens n d g ∙ bind_refused _ _ (number_of x.row) x.position h
 
-        go : DueOpens n answer at (subtree_in answer known) (Unopened number) → check_all (within p) n (subtree_in answer known) at (drop at answer) ≡ refuse number at
+        go : DueOpens n answer at (subtree_in answer known) (Err x) → RefusedBy (check_all (within p) n (subtree_in answer known) at (drop at answer)) x
         go (due _ d (unopened _ h)) = by_keys d (eqb k.least k.greatest) refl h
         go (not_due _ d h) = at_none p k at (drop at answer) opens n d ∙ h
 
-    pub leaf-here : r ≡ LeafTaken → Here (Read (at + 77) 1)
-    unfolding all_at check_leaf
-    leaf-here e = go (opening-is n answer at (subtree_in answer known) r o LeafTaken e)
-      where
-        go : DueOpens n answer at (subtree_in answer known) LeafTaken → Here (Read (at + 77) 1)
-        go (due _ d (at_leaf g q)) =
-            read (at + 77) 1
-            (record {
-              walk = opening_leaf (take 77 (drop at answer)) (at + 77) (drop 77 (drop at answer));
-              is = at_one p (subtree_in answer known) at (drop at answer) opens n g ∙ bind_eq _ _ _ q.is;
-              pos_is = refl;
-              rest_is = drop-drop 77 at answer;
-              count_is = refl;
-              inside = q.inside;
-            })
-
-    module _ (inner : r ≡ InnerTaken) where
-      -- the halves stand at their places in the answer
-      halves : all_at p n answer at known
-          ≡ (all_at p (n - 1) answer (at + 97) (at + 1) >>= λ a.
-          check_all (within p) (n - 1) (subtree_in answer (at + 49)) a.pos a.rest >>= λ b.
-          ok (opening_both (take 97 (drop at answer)) a b))
-      unfolding all_at
-      halves = go (opening-is n answer at (subtree_in answer known) r o InnerTaken inner)
+    module _ (opened : Opening) (o : DueOpens n answer at (subtree_in answer known) (Ok opened)) where
+      pub leaf-here : opened ≡ LeafTaken → Here (Ok (record { at = at + 77; count = 1 }))
+      unfolding all_at check_leaf
+      leaf-here e = go (opening-is n answer at (subtree_in answer known) opened o LeafTaken e)
         where
-          str : Bytes
-          str = take 97 (drop at answer)
+          go : DueOpens n answer at (subtree_in answer known) (Ok LeafTaken) → Here (Ok (record { at = at + 77; count = 1 }))
+          go (due _ d (at_leaf g q)) =
+              read (record { at = at + 77; count = 1 })
+              (record {
+                walk = opening_leaf (take 77 (drop at answer)) (at + 77) (drop 77 (drop at answer));
+                is = at_one p (subtree_in answer known) at (drop at answer) opens n g ∙ bind_eq _ _ _ q.is;
+                pos_is = refl;
+                rest_is = drop-drop 77 at answer;
+                count_is = refl;
+                inside = q.inside;
+              })
 
-          then : Subtree → Subtree → Bytes → Result CheckedAll
-          then l r x =
-              check_all (within p) (n - 1) l (at + 97) x >>= λ a.
-              check_all (within p) (n - 1) r a.pos a.rest >>= λ b.
-              ok (opening_both str a b)
-
-          go : DueOpens n answer at (subtree_in answer known) InnerTaken
-              → check_all (within p) n (subtree_in answer known) at (drop at answer) ≡ then (subtree_in answer (at + 1)) (subtree_in answer (at + 49)) (drop (at + 97) answer)
-          go (due _ d (at_inner g q)) =
-              at_two p (subtree_in answer known) at (drop at answer) opens n d g
-              ∙ bind_eq _ _ _ q.is
-              ∙ ap (then (left_in str) (right_in str)) (drop-drop 97 at answer)
-              ∙ ap₂ (λ (l r : Subtree). then l r (drop (at + 97) answer))
-              (subtree_at answer at 97 q.inside 1 (at + 1) (omega arith) refl) (subtree_at answer at 97 q.inside 49 (at + 49) (omega arith) refl)
-
-      module _ (r1 : Span) (left : SpanIs answer (all_at p (n - 1) answer (at + 97) (at + 1)) r1) where
-        left_is : (x : Span) → r1 ≡ x → SpanIs answer (all_at p (n - 1) answer (at + 97) (at + 1)) x
-        left_is x e = subst (SpanIs answer (all_at p (n - 1) answer (at + 97) (at + 1))) e left
-
-        pub left-refused : (number position : ℕ) → r1 ≡ Refused number position → Here (Refused number position)
-        left-refused number position e = go (left_is (Refused number position) e)
+      module _ (inner : opened ≡ InnerTaken) (left : ℕ) (l : left ≡ at + 1) where
+        -- the halves stand at their places in the answer
+        halves : (right : ℕ) → right ≡ at + 49
+            → all_at p n answer at known
+            ≡ (all_at p (n - 1) answer (at + 97) left >>= λ a.
+            check_all (within p) (n - 1) (subtree_in answer right) a.pos a.rest >>= λ b.
+            ok (opening_both (take 97 (drop at answer)) a b))
+        unfolding all_at
+        halves right r = go (opening-is n answer at (subtree_in answer known) opened o InnerTaken inner)
           where
-            go : SpanIs answer (all_at p (n - 1) answer (at + 97) (at + 1)) (Refused number position) → Here (Refused number position)
-            go (refused _ _ h) = refused number position (halves ∙ bind_refused _ _ number position h)
+            str : Bytes
+            str = take 97 (drop at answer)
 
-        module _ (middle count : ℕ) (e1 : r1 ≡ Read middle count) (r2 : Span) (right : SpanIs answer (all_at p (n - 1) answer middle (at + 49)) r2) where
-          gives : Reads answer (all_at p (n - 1) answer (at + 97) (at + 1)) middle count
-          gives = go (left_is (Read middle count) e1)
-            where
-              go : SpanIs answer (all_at p (n - 1) answer (at + 97) (at + 1)) (Read middle count) → Reads answer (all_at p (n - 1) answer (at + 97) (at + 1)) middle count
-              go (read _ _ g) = g
+            then : Subtree → Subtree → Bytes → Result CheckedAll
+            then l r x =
+                check_all (within p) (n - 1) l (at + 97) x >>= λ a.
+                check_all (within p) (n - 1) r a.pos a.rest >>= λ b.
+                ok (opening_both str a b)
 
-          after-left : all_at p n answer at known ≡ (all_at p (n - 1) answer middle (at + 49) >>= λ b. ok (opening_both (take 97 (drop at answer)) gives.walk b))
+            go : DueOpens n answer at (subtree_in answer known) (Ok InnerTaken)
+                → check_all (within p) n (subtree_in answer known) at (drop at answer) ≡ then (subtree_in answer left) (subtree_in answer right) (drop (at + 97) answer)
+            go (due _ d (at_inner g q)) =
+                at_two p (subtree_in answer known) at (drop at answer) opens n d g
+                ∙ bind_eq _ _ _ q.is
+                ∙ ap (then (left_in str) (right_in str)) (drop-drop 97 at answer)
+                ∙ ap₂ (λ (l r : Subtree). then l r (drop (at + 97) answer))
+                (subtree_at answer at 97 q.inside 1 left (omega arith) l) (subtree_at answer at 97 q.inside 49 right (omega arith) r)
+
+        pub left-refused : (x : Refusal) → SpanIs answer (all_at p (n - 1) answer (at + 97) left) (Err x) → Here (Err x)
+        left-refused x (refused _ h) = refused x (halves (at + 49) refl ∙ bind_refused _ _ (number_of x.row) x.position h)
+
+        module _ (below : Span) (L : SpanIs answer (all_at p (n - 1) answer (at + 97) left) (Ok below)) (right : ℕ) (r : right ≡ at + 49) where
+          gives : Reads answer (all_at p (n - 1) answer (at + 97) left) below.at below.count
+          gives = all_read p (n - 1) answer (at + 97) left below L
+
+          after-left : all_at p n answer at known ≡ (all_at p (n - 1) answer below.at right >>= λ b. ok (opening_both (take 97 (drop at answer)) gives.walk b))
           unfolding all_at
           after-left =
-              halves
+              halves right r
               ∙ bind_eq _ _ _ gives.is
-              ∙ ap₂ (λ (pos : ℕ) (x : Bytes). check_all (within p) (n - 1) (subtree_in answer (at + 49)) pos x >>= λ b. ok (opening_both (take 97 (drop at answer)) gives.walk b))
+              ∙ ap₂ (λ (pos : ℕ) (x : Bytes). check_all (within p) (n - 1) (subtree_in answer right) pos x >>= λ b. ok (opening_both (take 97 (drop at answer)) gives.walk b))
               gives.pos_is gives.rest_is
 
-          pub both-here : Here (counted_on count r2)
-          unfolding counted_on
-          both-here = go r2 right
-            where
-              go : (r2 : Span) → SpanIs answer (all_at p (n - 1) answer middle (at + 49)) r2 → Here (counted_on count r2)
-              go r2 (refused number position h) = refused number position (after-left ∙ bind_refused _ _ number position h)
-              go r2 (read end more g) =
-                  read end (count + more)
-                  (record {
-                    walk = opening_both (take 97 (drop at answer)) gives.walk g.walk;
-                    is = after-left ∙ bind_eq _ _ _ g.is;
-                    pos_is = g.pos_is;
-                    rest_is = g.rest_is;
-                    count_is = omega (arith, length-append gives.walk.leaves g.walk.leaves, gives.count_is, g.count_is);
-                    inside = g.inside;
-                  })
+          pub right-refused : (x : Refusal) → SpanIs answer (all_at p (n - 1) answer below.at right) (Err x) → Here (Err x)
+          right-refused x (refused _ h) = refused x (after-left ∙ bind_refused _ _ (number_of x.row) x.position h)
+
+          pub both-here : (behind : Span) → SpanIs answer (all_at p (n - 1) answer below.at right) (Ok behind)
+              → Here (Ok (record { at = behind.at; count = below.count + behind.count }))
+          both-here behind (read _ g) =
+              read (record { at = behind.at; count = below.count + behind.count })
+              (record {
+                walk = opening_both (take 97 (drop at answer)) gives.walk g.walk;
+                is = after-left ∙ bind_eq _ _ _ g.is;
+                pos_is = g.pos_is;
+                rest_is = g.rest_is;
+                count_is = omega (arith, length-append gives.walk.leaves g.walk.leaves, gives.count_is, g.count_is);
+                inside = g.inside;
+              })

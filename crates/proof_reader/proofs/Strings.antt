@@ -10,34 +10,52 @@ use Rattle.fields.specs.Fields.{part, field, equal}
 use Rattle.fields.proofs.Places.{part-all, part-take, field-take, part-drop, field-drop, first-left, some_left}
 use Rattle.sha256.specs.Sha256.{sha256}
 use Rattle.model.specs.Numbers.{Bytes, H}
-use Rattle.model.specs.Result.{refuse, ◌>>=◌, need}
+use Rattle.model.specs.Result.{Result, refuse, ◌>>=◌, need}
 use Rattle.model.specs.Accumulator.{Subtree}
 use Rattle.model.specs.CheckRows.{take_string, subtree_in, leaf_in}
 use Rattle.model.proofs.Strings.{H-length}
-use Rattle.proof_reader.specs.declared.Taking.{Taking}
-use Rattle.proof_reader.specs.declared.Taking.TheVariants.{Taken, Refused as Cut}
-use Rattle.proof_reader.specs.declared.Opening.TheVariants.{Leaf as LeafTaken, Inner as InnerTaken, Refused as Unopened}
-use Rattle.proof_reader.specs.Walks.{Passes, Takes, taken, cut, string_due, Opens, at_leaf, at_inner, unopened}
+use Rattle.std.specs.Prelude.{Ok, Err}
+use Rattle.std.specs.Prelude as std
+use Rattle.outcome.specs.declared.Row.{Row}
+use Rattle.outcome.specs.declared.Row.TheVariants.{AnswerCut, LetterNotDue, DigestNotDue}
+use Rattle.outcome.specs.declared.Refusal.{Refusal}
+use Rattle.outcome.specs.Outcomes.{number_of}
+use Rattle.proof_reader.specs.declared.Opening.TheVariants.{Leaf as LeafTaken, Inner as InnerTaken}
+use Rattle.proof_reader.specs.Walks.{RefusedBy, Passes, Takes, taken, cut, string_due, Opens, at_leaf, at_inner, unopened}
+
+-- ---- a refusal that was made
+
+abbrev pub Made : Row → ℕ → Refusal → Type 0
+Made row position r = r ≡ record { row = row; position = position }
+
+pub refused-as : {A : Type 0} (m : Result A) (row : Row) (p : ℕ) → m ≡ refuse (number_of row) p → (r : Refusal) → Made row p r → RefusedBy m r
+refused-as m row p h r e = h ∙ ap (λ (x : Refusal). refuse (number_of x.row) x.position) (sym e)
 
 -- ---- 15 (no byte), 16, 15 (width), 17
 
 module _ (answer : Bytes) (at letter width : ℕ) (due : Bytes) where
-  pub no_byte : length answer - at ≡ 0 → Takes answer at letter width due (Cut 15)
+  abbrev string : Result Bytes
+  string = take_string letter width due at (drop at answer)
+
+  turned : (row : Row) → string ≡ refuse (number_of row) at → (r : Refusal) → Made row at r → Takes answer at letter width due (Err r)
+  turned row h r e = cut r (refused-as _ row at h r e)
+
+  pub no_byte : length answer - at ≡ 0 → (r : Refusal) → Made AnswerCut at r → Takes answer at letter width due (Err r)
   unfolding take_string need ◌>>=◌
-  no_byte e = cut 15 (simp (lt-leb 1 (length (drop at answer)) (omega (arith, length-drop at answer))))
+  no_byte e = turned AnswerCut (simp (lt-leb 1 (length (drop at answer)) (omega (arith, length-drop at answer))))
 
   module _ (more : length answer - at ≡ 0 → ⊥) where
-    pub other-letter : (get_or answer at 0 ≡ letter → ⊥) → Takes answer at letter width due (Cut 16)
+    pub other-letter : (get_or answer at 0 ≡ letter → ⊥) → (r : Refusal) → Made LetterNotDue at r → Takes answer at letter width due (Err r)
     unfolding take_string need ◌>>=◌
-    other-letter h = cut 16 (simp (some_left at answer more, first-left at answer 0, ne_eqb (get_or answer at 0) letter h))
+    other-letter h = turned LetterNotDue (simp (some_left at answer more, first-left at answer 0, ne_eqb (get_or answer at 0) letter h))
 
     module _ (same : get_or answer at 0 ≡ letter) where
       letter_due : eqb (get_or (drop at answer) 0 0) letter ≡ true
       letter_due = eq-eqb (get_or (drop at answer) 0 0) letter (first-left at answer 0 ∙ same)
 
-      pub too_short : length answer - at < width → Takes answer at letter width due (Cut 15)
+      pub too_short : length answer - at < width → (r : Refusal) → Made AnswerCut at r → Takes answer at letter width due (Err r)
       unfolding take_string need ◌>>=◌
-      too_short h = cut 15 (simp (some_left at answer more, letter_due, lt-leb width (length (drop at answer)) (omega (arith, length-drop at answer))))
+      too_short h = turned AnswerCut (simp (some_left at answer more, letter_due, lt-leb width (length (drop at answer)) (omega (arith, length-drop at answer))))
 
       module _ (fits : width ≤ length answer - at) (d : Bytes) (hashed : d ≡ sha256 (take (at + width - at) (drop at answer))) (b : Bool) (compared : b ≡ equal (part d 0 32) due) where
         all_there : leb width (length (drop at answer)) ≡ true
@@ -52,31 +70,25 @@ module _ (answer : Bytes) (at letter width : ℕ) (due : Bytes) where
             ap (λ (x : Bytes). equal x due) (sym (part-all d 32 (ap length hash_is ∙ H-length (take width (drop at answer))) ∙ hash_is))
             ∙ sym compared
 
-        pub string_passes : at ≤ length answer → b ≡ true → Takes answer at letter width due Taken
+        pub string_passes : at ≤ length answer → b ≡ true → Takes answer at letter width due (Ok tt)
         unfolding take_string need ◌>>=◌
         string_passes inside e =
             taken (record { inside = omega arith; is = simp (some_left at answer more, letter_due, all_there, test_is ∙ e) })
 
-        pub other-digest : b ≡ false → Takes answer at letter width due (Cut 17)
+        pub other-digest : b ≡ false → (r : Refusal) → Made DigestNotDue at r → Takes answer at letter width due (Err r)
         unfolding take_string need ◌>>=◌
-        other-digest e = cut 17 (simp (some_left at answer more, letter_due, all_there, test_is ∙ e))
+        other-digest e = turned DigestNotDue (simp (some_left at answer more, letter_due, all_there, test_is ∙ e))
 
 -- ---- the string of a known subtree
 
-module _ (answer : Bytes) (at letter width : ℕ) (due : Bytes) where
-  pub passed : (r : Taking) → Takes answer at letter width due r → r ≡ Taken → Passes answer at letter width due
-  passed r T e = go (subst (Takes answer at letter width due) e T)
-    where
-      go : Takes answer at letter width due Taken → Passes answer at letter width due
-      go (taken p) = p
+pub passed : {answer : Bytes} {at letter width : ℕ} {due : Bytes} {u : Unit {0}} → Takes answer at letter width due (Ok u) → Passes answer at letter width due
+passed (taken p) = p
 
-  pub not_passed : (r : Taking) (n : ℕ) → Takes answer at letter width due r → r ≡ Cut n → take_string letter width due at (drop at answer) ≡ refuse n at
-  not_passed r n T e = go (subst (Takes answer at letter width due) e T)
-    where
-      go : Takes answer at letter width due (Cut n) → take_string letter width due at (drop at answer) ≡ refuse n at
-      go (cut _ h) = h
+pub not_passed : {answer : Bytes} {at letter width : ℕ} {due : Bytes} {e : Refusal} → Takes answer at letter width due (Err e)
+    → RefusedBy (take_string letter width due at (drop at answer)) e
+not_passed (cut _ h) = h
 
-module _ (leaf width inner : ℕ) (answer : Bytes) (at known least greatest : ℕ) (l : least ≡ field 8 answer known) (g : greatest ≡ field 8 answer (known + 8)) (r : Taking) where
+module _ (leaf width inner : ℕ) (answer : Bytes) (at known least greatest : ℕ) (l : least ≡ field 8 answer known) (g : greatest ≡ field 8 answer (known + 8)) where
   keys_are : eqb (subtree_in answer known).least (subtree_in answer known).greatest ≡ eqb least greatest
   unfolding subtree_in
   keys_are = ap₂ eqb (sym l) (sym g)
@@ -85,30 +97,30 @@ module _ (leaf width inner : ℕ) (answer : Bytes) (at known least greatest : �
   unfolding subtree_in
   digest_at = ap (λ (p : ℕ). part answer p 32) (let e : known + 16 ≡ known + 8 + 8 = omega arith in e)
 
-  due-is : (letter w : ℕ) → Takes answer at letter w (part answer (known + 16) 32) r → Takes answer at letter w (subtree_in answer known).digest r
-  due-is letter w t = subst (λ (d : Bytes). Takes answer at letter w d r) digest_at t
+  due-is : (letter w : ℕ) (r : std.Result (Unit {0}) Refusal) → Takes answer at letter w (part answer (known + 16) 32) r → Takes answer at letter w (subtree_in answer known).digest r
+  due-is letter w r t = subst (λ (d : Bytes). Takes answer at letter w d r) digest_at t
 
-  module _ (same : least ≡ greatest) (t : Takes answer at leaf width (part answer (known + 16) 32) r) where
+  module _ (same : least ≡ greatest) where
     one_key : eqb (subtree_in answer known).least (subtree_in answer known).greatest ≡ true
     one_key = keys_are ∙ eq-eqb least greatest same
 
-    pub leaf-opened : r ≡ Taken → Opens leaf width inner answer at (subtree_in answer known) LeafTaken
-    leaf-opened e = at_leaf one_key (passed answer at leaf width _ r (due-is leaf width t) e)
+    pub leaf-opened : (u : Unit {0}) → Takes answer at leaf width (part answer (known + 16) 32) (Ok u) → Opens leaf width inner answer at (subtree_in answer known) (Ok LeafTaken)
+    leaf-opened u t = at_leaf one_key (passed (due-is leaf width (Ok u) t))
 
-    pub leaf-refused : (n : ℕ) → r ≡ Cut n → Opens leaf width inner answer at (subtree_in answer known) (Unopened n)
+    pub leaf-refused : (e : Refusal) → Takes answer at leaf width (part answer (known + 16) 32) (Err e) → Opens leaf width inner answer at (subtree_in answer known) (Err e)
     unfolding string_due
-    leaf-refused n e = unopened n (simp (one_key) (not_passed answer at leaf width _ r n (due-is leaf width t) e))
+    leaf-refused e t = unopened e (simp (one_key) (not_passed (due-is leaf width (Err e) t)))
 
-  module _ (apart : least ≡ greatest → ⊥) (t : Takes answer at inner 97 (part answer (known + 16) 32) r) where
+  module _ (apart : least ≡ greatest → ⊥) where
     two_keys : eqb (subtree_in answer known).least (subtree_in answer known).greatest ≡ false
     two_keys = keys_are ∙ ne_eqb least greatest apart
 
-    pub inner_opened : r ≡ Taken → Opens leaf width inner answer at (subtree_in answer known) InnerTaken
-    inner_opened e = at_inner two_keys (passed answer at inner 97 _ r (due-is inner 97 t) e)
+    pub inner_opened : (u : Unit {0}) → Takes answer at inner 97 (part answer (known + 16) 32) (Ok u) → Opens leaf width inner answer at (subtree_in answer known) (Ok InnerTaken)
+    inner_opened u t = at_inner two_keys (passed (due-is inner 97 (Ok u) t))
 
-    pub inner_refused : (n : ℕ) → r ≡ Cut n → Opens leaf width inner answer at (subtree_in answer known) (Unopened n)
+    pub inner_refused : (e : Refusal) → Takes answer at inner 97 (part answer (known + 16) 32) (Err e) → Opens leaf width inner answer at (subtree_in answer known) (Err e)
     unfolding string_due
-    inner_refused n e = unopened n (simp (two_keys) (not_passed answer at inner 97 _ r n (due-is inner 97 t) e))
+    inner_refused e t = unopened e (simp (two_keys) (not_passed (due-is inner 97 (Err e) t)))
 
 -- ---- what stands in a string, by its place in the answer
 
@@ -132,9 +144,9 @@ module _ (answer : Bytes) (at width : ℕ) (h : at + width ≤ length answer) wh
 
 -- the leaf L: its keys, and where its two digests stand
 module _ (answer : Bytes) (leaf : ℕ) (h : leaf + 77 ≤ length answer) where
-  pub entity_at : (r n : ℕ) → n ≡ field 4 answer (leaf + 1) → r ≡ n → r ≡ (leaf_in (take 77 (drop leaf answer))).entity
+  pub entity_at : (r : ℕ) → r ≡ field 4 answer (leaf + 1) → r ≡ (leaf_in (take 77 (drop leaf answer))).entity
   unfolding leaf_in
-  entity_at r n f e = e ∙ f ∙ sym (field_at answer leaf 77 h 4 1 (leaf + 1) (omega arith) refl)
+  entity_at r e = e ∙ sym (field_at answer leaf 77 h 4 1 (leaf + 1) (omega arith) refl)
 
   pub time_at : (r : ℕ) → r ≡ field 8 answer (leaf + 5) → r ≡ (leaf_in (take 77 (drop leaf answer))).time
   unfolding leaf_in

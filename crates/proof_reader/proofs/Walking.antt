@@ -1,7 +1,7 @@
 -- The walk, step by step: what is left to read gives what was to be read. Assumes nothing.
 use mathlib.Core.Path.{◌≡◌, refl, sym, ap, ap₂, ◌∙◌, subst}
 use mathlib.Core.Bool.{Bool, true, false, cond}
-use Prim.Native.Nat.{ℕ, ◌+◌, ◌-◌, ◌≤◌, ◌<◌}
+use Prim.Native.Nat.{ℕ, ◌+◌, ◌≤◌, ◌<◌}
 use native.Mathlib.Omega.{arith}
 use lib.Dec.{eqb}
 use lib.ListN.{length, take, drop, length-drop}
@@ -15,25 +15,24 @@ use Rattle.model.specs.Question.{Relation, VersionQuestion, Question, one, entit
 use Rattle.model.specs.CheckRows.{take_string, CheckedProof, stopped as ended, opening, subtree_in, chosen, leaf_in, check_tree, check_versions, check_sought, check_entities, check_proof}
 use Rattle.model.proofs.Outcomes.{bind_eq, bind_refused}
 use Rattle.model.proofs.CheckSteps.{tree-step, sought_fuel, entities_fuel}
-use Rattle.proof_reader.specs.declared.Taking.{Taking}
-use Rattle.proof_reader.specs.declared.Taking.TheVariants.{Taken, Refused as Cut}
+use Rattle.std.specs.Prelude.{Ok, Err}
+use Rattle.std.specs.Prelude as std
+use Rattle.outcome.specs.declared.Refusal.{Refusal}
+use Rattle.outcome.specs.Outcomes.{number_of}
 use Rattle.proof_reader.specs.declared.Opening.{Opening}
-use Rattle.proof_reader.specs.declared.Opening.TheVariants.{Leaf as LeafTaken, Inner as InnerTaken, Refused as Unopened}
+use Rattle.proof_reader.specs.declared.Opening.TheVariants.{Leaf as LeafTaken, Inner as InnerTaken}
 use Rattle.proof_reader.specs.declared.Stop.{Stop}
 use Rattle.proof_reader.specs.declared.Stop.TheVariants.{NoEntity}
 use Rattle.proof_reader.specs.declared.EntitySearch.{EntitySearch}
-use Rattle.proof_reader.specs.declared.EntitySearch.TheVariants.{NoEntity as ToNothing, Group as ToGroup, Refused as Unsought}
+use Rattle.proof_reader.specs.declared.EntitySearch.TheVariants.{NoEntity as ToNothing, Group as ToGroup}
 use Rattle.proof_reader.specs.declared.Proof.{Proof}
-use Rattle.proof_reader.specs.declared.Proof.TheVariants.{Stopped, Found, Refused}
-use Rattle.proof_reader.specs.Walks.{Passes, Takes, Opens, at_leaf, at_inner, unopened, string_due, side_of, stop_of, versions_at, sought_at, entities_at, Gives, GoesOn, SearchIs, to_nothing, to_group, unsought, ProofIs, stopped, found, refused}
+use Rattle.proof_reader.specs.declared.Proof.TheVariants.{Stopped, Found}
+use Rattle.proof_reader.specs.Walks.{RefusedBy, Passes, Takes, Opens, at_leaf, at_inner, unopened, string_due, side_of, stop_of, versions_at, sought_at, entities_at, Gives, GoesOn, SearchIs, to_nothing, to_group, unsought, ProofIs, stopped, found, refused}
 use Rattle.proof_reader.proofs.Strings.{passed, not_passed, subtree_at}
 
 -- ---- a reading that goes on as another
 
 module _ (answer : Bytes) where
-  itself : (m : Result CheckedProof) → GoesOn answer m m
-  itself m = record { ends = λ e at g. g; refuses = λ n p e. e }
-
   as_well : {a b : Result CheckedProof} → a ≡ b → (c : Result CheckedProof) → GoesOn answer b c → GoesOn answer a c
   as_well e c g = subst (λ (m : Result CheckedProof). GoesOn answer m c) (sym e) g
 
@@ -57,10 +56,10 @@ module _ (answer : Bytes) where
       }
 
   -- by the reader's answer
-  pub proof_back : {m n : Result CheckedProof} → GoesOn answer m n → (r : Proof) → ProofIs answer n r → ProofIs answer m r
+  pub proof_back : {m n : Result CheckedProof} → GoesOn answer m n → (r : std.Result Proof Refusal) → ProofIs answer n r → ProofIs answer m r
   proof_back w r (stopped x e at k g) = stopped x e at k (w.ends _ at g)
   proof_back w r (found leaf at e g) = found leaf at e (w.ends _ at g)
-  proof_back w r (refused n p e) = refused n p (w.refuses n p e)
+  proof_back w r (refused x e) = refused x (w.refuses (number_of x.row) x.position e)
 
 -- ---- one step in a tree
 
@@ -118,11 +117,12 @@ module _ {A : Type 0} (R : Rules A) (answer : Bytes) (at known : ℕ) where
   tree-stops h = next ∙ simp (h)
 
   module _ (goes : R.descent.stops (subtree_in answer known) ≡ false) where
-    tree_halts : (n : ℕ)
-        → string_due R.layout.leaf_letter R.layout.leaf_width R.layout.inner_letter (subtree_in answer known) at (drop at answer) ≡ refuse n at
-        → tree-from R answer at known ≡ refuse n at
+    tree_halts : (e : Refusal)
+        → RefusedBy (string_due R.layout.leaf_letter R.layout.leaf_width R.layout.inner_letter (subtree_in answer known) at (drop at answer)) e
+        → RefusedBy (tree-from R answer at known) e
     unfolding string_due
-    tree_halts n h = next ∙ simp (goes) (cond-refused (eqb (subtree_in answer known).least (subtree_in answer known).greatest) _ _ _ _ n at h)
+    tree_halts e h =
+        next ∙ simp (goes) (cond-refused (eqb (subtree_in answer known).least (subtree_in answer known).greatest) _ _ _ _ (number_of e.row) e.position h)
 
     tree-leaf : eqb (subtree_in answer known).least (subtree_in answer known).greatest ≡ true
         → Passes answer at R.layout.leaf_letter R.layout.leaf_width (subtree_in answer known).digest
@@ -150,36 +150,28 @@ module _ {A : Type 0} (R : Rules A) (answer : Bytes) (at known : ℕ) where
 -- ---- by the string that was opened
 
 module _ (leaf width inner : ℕ) (answer : Bytes) (at known : ℕ) where
-  leaf-inside : Opens leaf width inner answer at (subtree_in answer known) LeafTaken → at + width ≤ length answer
+  leaf-inside : Opens leaf width inner answer at (subtree_in answer known) (Ok LeafTaken) → at + width ≤ length answer
   leaf-inside (at_leaf k h) = h.inside
 
-  inner_inside : Opens leaf width inner answer at (subtree_in answer known) InnerTaken → at + 97 ≤ length answer
+  inner_inside : Opens leaf width inner answer at (subtree_in answer known) (Ok InnerTaken) → at + 97 ≤ length answer
   inner_inside (at_inner k h) = h.inside
 
-  module _ (o : Opening) (O : Opens leaf width inner answer at (subtree_in answer known) o) where
-    opens : (x : Opening) → o ≡ x → Opens leaf width inner answer at (subtree_in answer known) x
-    opens x q = subst (λ (y : Opening). Opens leaf width inner answer at (subtree_in answer known) y) q O
+  module _ (x : Opening) (O : Opens leaf width inner answer at (subtree_in answer known) (Ok x)) where
+    opens : (y : Opening) → x ≡ y → Opens leaf width inner answer at (subtree_in answer known) (Ok y)
+    opens y q = subst (λ (z : Opening). Opens leaf width inner answer at (subtree_in answer known) (Ok z)) q O
 
     -- it lies inside the answer
-    pub leaf-there : o ≡ LeafTaken → at + width ≤ length answer
+    pub leaf-there : x ≡ LeafTaken → at + width ≤ length answer
     leaf-there q = leaf-inside (opens LeafTaken q)
 
-    pub inner_there : o ≡ InnerTaken → at + 97 ≤ length answer
+    pub inner_there : x ≡ InnerTaken → at + 97 ≤ length answer
     inner_there q = inner_inside (opens InnerTaken q)
-
-    -- fewer bytes are left
-    pub fewer : o ≡ InnerTaken → length answer - (at + 97) < length answer - at
-    fewer q = omega (arith, inner_there q)
 
 -- a walk that began at one place, and goes on at another
 pub record Walking (answer : Bytes) (check : ℕ → ℕ → Result CheckedProof) (at₀ known₀ at known : ℕ) : Type 0 where
   pub inside : at ≤ length answer
   pub room : known + 48 ≤ length answer
   pub back : GoesOn answer (check at₀ known₀) (check at known)
-
-pub walking : (answer : Bytes) (check : ℕ → ℕ → Result CheckedProof) (at known : ℕ) → at ≤ length answer → known + 48 ≤ length answer
-    → Walking answer check at known at known
-walking answer check at known h k = record { inside = h; room = k; back = itself answer (check at known) }
 
 module _ {A : Type 0} (R : Rules A) (answer : Bytes) (at₀ known₀ at known : ℕ) (W : Walking answer (tree-from R answer) at₀ known₀ at known) where
   module _ (b : Bool) (tested : b ≡ R.descent.stops (subtree_in answer known)) where
@@ -195,43 +187,29 @@ module _ {A : Type 0} (R : Rules A) (answer : Bytes) (at₀ known₀ at known : 
           inside = W.inside;
         })
 
-    module _ (goes : b ≡ false) (o : Opening) (O : Opens R.layout.leaf_letter R.layout.leaf_width R.layout.inner_letter answer at (subtree_in answer known) o) where
-      is-opened : (x : Opening) → o ≡ x → Opens R.layout.leaf_letter R.layout.leaf_width R.layout.inner_letter answer at (subtree_in answer known) x
-      is-opened = opens R.layout.leaf_letter R.layout.leaf_width R.layout.inner_letter answer at known o O
+    module _ (goes : b ≡ false) where
+      walk_halts : (e : Refusal) → Opens R.layout.leaf_letter R.layout.leaf_width R.layout.inner_letter answer at (subtree_in answer known) (Err e)
+          → RefusedBy (tree-from R answer at₀ known₀) e
+      walk_halts e (unopened _ h) = W.back.refuses (number_of e.row) e.position (tree_halts R answer at known (sym tested ∙ goes) e h)
 
-      walk_halts : (n : ℕ) → o ≡ Unopened n → tree-from R answer at₀ known₀ ≡ refuse n at
-      walk_halts n q = go (is-opened (Unopened n) q)
-        where
-          go : Opens R.layout.leaf_letter R.layout.leaf_width R.layout.inner_letter answer at (subtree_in answer known) (Unopened n)
-              → tree-from R answer at₀ known₀ ≡ refuse n at
-          go (unopened _ h) = W.back.refuses n at (tree_halts R answer at known (sym tested ∙ goes) n h)
-
-      walk-leaf : o ≡ LeafTaken
+      walk-leaf : Opens R.layout.leaf_letter R.layout.leaf_width R.layout.inner_letter answer at (subtree_in answer known) (Ok LeafTaken)
           → GoesOn answer (tree-from R answer at₀ known₀)
           (R.leaf (take R.layout.leaf_width (drop at answer)) (length (drop (at + R.layout.leaf_width) answer)) (at + R.layout.leaf_width) (drop (at + R.layout.leaf_width) answer))
-      walk-leaf q = go (is-opened LeafTaken q)
-        where
-          go : Opens R.layout.leaf_letter R.layout.leaf_width R.layout.inner_letter answer at (subtree_in answer known) LeafTaken
-              → GoesOn answer (tree-from R answer at₀ known₀)
-              (R.leaf (take R.layout.leaf_width (drop at answer)) (length (drop (at + R.layout.leaf_width) answer)) (at + R.layout.leaf_width) (drop (at + R.layout.leaf_width) answer))
-          go (at_leaf k h) = further answer W.back (as_well answer (tree-leaf R answer at known (sym tested ∙ goes) k h) _ (opened-before answer _ _))
+      walk-leaf (at_leaf k h) = further answer W.back (as_well answer (tree-leaf R answer at known (sym tested ∙ goes) k h) _ (opened-before answer _ _))
 
-      walk-on : o ≡ InnerTaken → (side : ℕ) → side ≡ side_of R.descent answer at → Walking answer (tree-from R answer) at₀ known₀ (at + 97) side
-      walk-on q side f = go (is-opened InnerTaken q)
-        where
-          go : Opens R.layout.leaf_letter R.layout.leaf_width R.layout.inner_letter answer at (subtree_in answer known) InnerTaken
-              → Walking answer (tree-from R answer) at₀ known₀ (at + 97) side
-          go (at_inner n h) =
-              record {
-                inside = h.inside;
-                room = subst (λ (x : ℕ). x + 48 ≤ length answer) (sym f) (side_room R.descent answer at h.inside);
-                back =
-                    further answer W.back
-                    (as_well answer (tree_side R answer at known (sym tested ∙ goes) n h) _
-                    (subst
-                    (λ (x : ℕ). GoesOn answer (tree-from R answer (at + 97) (side_of R.descent answer at) >>= λ r. ok (opening (take 97 (drop at answer)) r)) (tree-from R answer (at + 97) x))
-                    (sym f) (opened-before answer _ _)));
-              }
+      walk-on : Opens R.layout.leaf_letter R.layout.leaf_width R.layout.inner_letter answer at (subtree_in answer known) (Ok InnerTaken) → (side : ℕ) → side ≡ side_of R.descent answer at
+          → Walking answer (tree-from R answer) at₀ known₀ (at + 97) side
+      walk-on (at_inner n h) side f =
+          record {
+            inside = h.inside;
+            room = subst (λ (x : ℕ). x + 48 ≤ length answer) (sym f) (side_room R.descent answer at h.inside);
+            back =
+                further answer W.back
+                (as_well answer (tree_side R answer at known (sym tested ∙ goes) n h) _
+                (subst
+                (λ (x : ℕ). GoesOn answer (tree-from R answer (at + 97) (side_of R.descent answer at) >>= λ r. ok (opening (take 97 (drop at answer)) r)) (tree-from R answer (at + 97) x))
+                (sym f) (opened-before answer _ _)));
+          }
 
 -- ---- in one entity's tree
 
@@ -249,25 +227,27 @@ module _ (r : Relation) (t : ℕ) (answer : Bytes) (at₀ known₀ at known : �
     (tested : b ≡ (by_time r t).stops (subtree_in answer known))
   where
     pub versions-stop : b ≡ true → (e : Stop) → ((t : ℕ) → e ≡ stop_of ((by_time r t).stop_at (subtree_in answer known)))
-        → ProofIs answer (versions_at r t answer at₀ known₀) (Stopped e at)
+        → ProofIs answer (versions_at r t answer at₀ known₀) (Ok (Stopped e at))
     unfolding versions_at check_versions version_rules
     versions-stop h e k = stopped e _ at (k t) (walk-stops (version_rules r t) answer at₀ known₀ at known W b tested h)
 
-    module _ (goes : b ≡ false) (o : Opening) (O : Opens 0x4C 77 0x4E answer at (subtree_in answer known) o) where
-      pub versions_halt : (n : ℕ) → o ≡ Unopened n → ProofIs answer (versions_at r t answer at₀ known₀) (Refused n at)
+    module _ (goes : b ≡ false) where
+      pub versions_halt : (e : Refusal) → Opens 0x4C 77 0x4E answer at (subtree_in answer known) (Err e) → ProofIs answer (versions_at r t answer at₀ known₀) (Err e)
       unfolding versions_at check_versions version_rules
-      versions_halt n q = refused n at (walk_halts (version_rules r t) answer at₀ known₀ at known W b tested goes o O n q)
+      versions_halt e o = refused e (walk_halts (version_rules r t) answer at₀ known₀ at known W b tested goes e o)
 
-      pub version-found : o ≡ LeafTaken → ProofIs answer (versions_at r t answer at₀ known₀) (Found at (at + 77))
-      unfolding versions_at check_versions version_rules
-      version-found q =
-          found at (at + 77) refl
-          ((walk-leaf (version_rules r t) answer at₀ known₀ at known W b tested goes o O q).ends _ (at + 77)
-          (record { proof = _; is = refl; end_is = refl; pos_is = refl; rest_is = refl; inside = leaf-there 0x4C 77 0x4E answer at known o O q }))
+      module _ (x : Opening) (o : Opens 0x4C 77 0x4E answer at (subtree_in answer known) (Ok x)) where
+        pub version-found : x ≡ LeafTaken → ProofIs answer (versions_at r t answer at₀ known₀) (Ok (Found at (at + 77)))
+        unfolding versions_at check_versions version_rules
+        version-found q =
+            found at (at + 77) refl
+            ((walk-leaf (version_rules r t) answer at₀ known₀ at known W b tested goes (opens 0x4C 77 0x4E answer at known x o LeafTaken q)).ends _ (at + 77)
+            (record { proof = _; is = refl; end_is = refl; pos_is = refl; rest_is = refl; inside = leaf-there 0x4C 77 0x4E answer at known x o q }))
 
-      pub versions_on : o ≡ InnerTaken → (side : ℕ) → side ≡ side_of (by_time r t) answer at → Walking answer (versions_at r t answer) at₀ known₀ (at + 97) side
-      unfolding versions_at check_versions version_rules
-      versions_on q side f = walk-on (version_rules r t) answer at₀ known₀ at known W b tested goes o O q side f
+        pub versions_on : x ≡ InnerTaken → (side : ℕ) → side ≡ side_of (by_time r t) answer at → Walking answer (versions_at r t answer) at₀ known₀ (at + 97) side
+        unfolding versions_at check_versions version_rules
+        versions_on q side f =
+            walk-on (version_rules r t) answer at₀ known₀ at known W b tested goes (opens 0x4C 77 0x4E answer at known x o InnerTaken q) side f
 
 -- ---- in the tree of entities
 
@@ -287,13 +267,10 @@ pub record Seeking (answer : Bytes) (s at₀ known₀ at known : ℕ) : Type 0 w
   pub room : known + 48 ≤ length answer
   pub back : (q : Question) → entity_of q ≡ s → GoesOn answer (entities_at q answer at₀ known₀) (entities_at q answer at known)
 
-pub seeking : (answer : Bytes) (s at known : ℕ) → at ≤ length answer → known + 48 ≤ length answer → Seeking answer s at known at known
-seeking answer s at known h k = record { inside = h; room = k; back = λ q e. itself answer (entities_at q answer at known) }
-
 module _ (s : ℕ) (answer : Bytes) (at₀ known₀ at known : ℕ) (W : Seeking answer s at₀ known₀ at known) (b : Bool)
     (tested : b ≡ (by_entity s).stops (subtree_in answer known))
   where
-    abbrev Here : EntitySearch → Type 0
+    abbrev Here : std.Result EntitySearch Refusal → Type 0
     Here r = SearchIs answer s (λ q. entities_at q answer at₀ known₀) r
 
     for : (q : Question) → entity_of q ≡ s → Walking answer (entities_at q answer) at₀ known₀ at known
@@ -302,116 +279,111 @@ module _ (s : ℕ) (answer : Bytes) (at₀ known₀ at known : ℕ) (W : Seeking
     by_its : (q : Question) → entity_of q ≡ s → b ≡ (by_entity (entity_of q)).stops (subtree_in answer known)
     by_its q e = tested ∙ ap (λ (z : ℕ). (by_entity z).stops (subtree_in answer known)) (sym e)
 
-    pub entities-stop : b ≡ true → Here (ToNothing at)
+    pub entities-stop : b ≡ true → Here (Ok (ToNothing at))
     unfolding entities_at check_entities entity_rules by_entity
     entities-stop h = to_nothing at (λ q e. walk-stops (entity_rules q) answer at₀ known₀ at known (for q e) b (by_its q e) h)
 
-    module _ (goes : b ≡ false) (o : Opening) (O : Opens 0x47 57 0x50 answer at (subtree_in answer known) o) where
-      pub entities_halt : (n : ℕ) → o ≡ Unopened n → Here (Unsought n at)
+    module _ (goes : b ≡ false) where
+      pub entities_halt : (x : Refusal) → Opens 0x47 57 0x50 answer at (subtree_in answer known) (Err x) → Here (Err x)
       unfolding entities_at check_entities entity_rules
-      entities_halt n k = unsought n at (λ q e. walk_halts (entity_rules q) answer at₀ known₀ at known (for q e) b (by_its q e) goes o O n k)
+      entities_halt x o = unsought x (λ q e. walk_halts (entity_rules q) answer at₀ known₀ at known (for q e) b (by_its q e) goes x o)
 
-      pub entity-found : o ≡ LeafTaken → Here (ToGroup at)
-      unfolding entities_at check_entities entity_rules sought_at
-      entity-found k =
-          let h = leaf-there 0x47 57 0x50 answer at known o O k in
-          to_group at h
-          (λ q e.
-          subst
-          (λ (y : Subtree). GoesOn answer (entities_at q answer at₀ known₀) (check_sought q (length (drop (at + 57) answer)) y (at + 57) (drop (at + 57) answer)))
-          (subtree_at answer at 57 h 9 (at + 9) (omega arith) refl)
-          (walk-leaf (entity_rules q) answer at₀ known₀ at known (for q e) b (by_its q e) goes o O k))
+      module _ (x : Opening) (o : Opens 0x47 57 0x50 answer at (subtree_in answer known) (Ok x)) where
+        pub entity-found : x ≡ LeafTaken → Here (Ok (ToGroup at))
+        unfolding entities_at check_entities entity_rules sought_at
+        entity-found k =
+            let h = leaf-there 0x47 57 0x50 answer at known x o k in
+            to_group at h
+            (λ q e.
+            subst
+            (λ (y : Subtree). GoesOn answer (entities_at q answer at₀ known₀) (check_sought q (length (drop (at + 57) answer)) y (at + 57) (drop (at + 57) answer)))
+            (subtree_at answer at 57 h 9 (at + 9) (omega arith) refl)
+            (walk-leaf (entity_rules q) answer at₀ known₀ at known (for q e) b (by_its q e) goes (opens 0x47 57 0x50 answer at known x o LeafTaken k)))
 
-      pub entities-on : o ≡ InnerTaken → (side : ℕ) → side ≡ side_of (by_entity s) answer at → Seeking answer s at₀ known₀ (at + 97) side
-      unfolding entities_at check_entities entity_rules
-      entities-on k side f =
-          let on : (q : Question) → entity_of q ≡ s → Walking answer (entities_at q answer) at₀ known₀ (at + 97) side =
-          λ q e. walk-on (entity_rules q) answer at₀ known₀ at known (for q e) b (by_its q e) goes o O k side (f ∙ ap (λ (z : ℕ). side_of (by_entity z) answer at) (sym e)) in
-          let h = inner_there 0x47 57 0x50 answer at known o O k in
-          record { inside = h; room = subst (λ (x : ℕ). x + 48 ≤ length answer) (sym f) (side_room (by_entity s) answer at h); back = λ q e. (on q e).back }
+        pub entities-on : x ≡ InnerTaken → (side : ℕ) → side ≡ side_of (by_entity s) answer at → Seeking answer s at₀ known₀ (at + 97) side
+        unfolding entities_at check_entities entity_rules
+        entities-on k side f =
+            let on : (q : Question) → entity_of q ≡ s → Walking answer (entities_at q answer) at₀ known₀ (at + 97) side =
+            λ q e.
+            walk-on (entity_rules q) answer at₀ known₀ at known (for q e) b (by_its q e) goes (opens 0x47 57 0x50 answer at known x o InnerTaken k) side
+            (f ∙ ap (λ (z : ℕ). side_of (by_entity z) answer at) (sym e)) in
+            let h = inner_there 0x47 57 0x50 answer at known x o k in
+            record { inside = h; room = subst (λ (x : ℕ). x + 48 ≤ length answer) (sym f) (side_room (by_entity s) answer at h); back = λ q e. (on q e).back }
 
 -- ---- from R down to G
 
-search_back : (answer : Bytes) (s : ℕ) (f g : Question → Result CheckedProof) → ((q : Question) → GoesOn answer (f q) (g q)) → (r : EntitySearch) → SearchIs answer s g r → SearchIs answer s f r
+search_back : (answer : Bytes) (s : ℕ) (f g : Question → Result CheckedProof) → ((q : Question) → GoesOn answer (f q) (g q)) → (r : std.Result EntitySearch Refusal) → SearchIs answer s g r → SearchIs answer s f r
 search_back answer s f g w r (to_nothing at k) = to_nothing at (λ q e. (w q).ends _ at (k q e))
 search_back answer s f g w r (to_group at h k) = to_group at h (λ q e. further answer (w q) (k q e))
-search_back answer s f g w r (unsought n p k) = unsought n p (λ q e. (w q).refuses n p (k q e))
+search_back answer s f g w r (unsought x k) = unsought x (λ q e. (w q).refuses (number_of x.row) x.position (k q e))
 
-module _ (answer commitment : Bytes) (at letter : ℕ) (wide : length commitment ≡ 32) (r : Taking) (T : Takes answer at letter 65 (part commitment 0 32) r) (s : ℕ) where
-  abbrev FoundBy : EntitySearch → Type 0
+module _ (answer commitment : Bytes) (at letter : ℕ) (wide : length commitment ≡ 32) (s : ℕ) where
+  abbrev FoundBy : std.Result EntitySearch Refusal → Type 0
   FoundBy x = SearchIs answer s (λ q. check_proof letter q commitment at (drop at answer)) x
 
-  root_taking : Takes answer at letter 65 commitment r
-  root_taking = subst (λ (d : Bytes). Takes answer at letter 65 d r) (part-all commitment 32 wide) T
+  root_taking : (r : std.Result (Unit {0}) Refusal) → Takes answer at letter 65 (part commitment 0 32) r → Takes answer at letter 65 commitment r
+  root_taking r t = subst (λ (d : Bytes). Takes answer at letter 65 d r) (part-all commitment 32 wide) t
 
-  pub root-refused : (n : ℕ) → r ≡ Cut n → FoundBy (Unsought n at)
+  pub root-refused : (e : Refusal) → Takes answer at letter 65 (part commitment 0 32) (Err e) → FoundBy (Err e)
   unfolding check_proof
-  root-refused n e = unsought n at (λ q k. bind_refused _ _ n at (not_passed answer at letter 65 commitment r n root_taking e))
+  root-refused e t = unsought e (λ q k. bind_refused _ _ (number_of e.row) e.position (not_passed (root_taking (Err e) t)))
 
-  root-on : r ≡ Taken → (q : Question) → GoesOn answer (check_proof letter q commitment at (drop at answer)) (entities_at q answer (at + 65) (at + 17))
-  unfolding check_proof entities_at
-  root-on e q =
-      let h = passed answer at letter 65 commitment r root_taking e in
-      let n = length-drop at answer in
-      let m = length-drop (at + 65) answer in
-      let w = h.inside in
-      let k = subtree_at answer at 65 w 17 (at + 17) (omega arith) refl in
-      as_well answer
-      (bind_eq _ _ (take 65 (drop at answer)) h.is
-      ∙ ap₂ (λ (x : Bytes) (y : Subtree). check_entities q (length (drop at answer)) y (at + 65) x >>= λ z. ok (opening (take 65 (drop at answer)) z)) (drop-drop 65 at answer) k
-      ∙ ap (λ (m : Result CheckedProof). m >>= λ z. ok (opening (take 65 (drop at answer)) z))
-      (entities_fuel q (length (drop at answer)) (length (drop (at + 65) answer)) (subtree_in answer (at + 17)) (at + 65) (drop (at + 65) answer) (omega arith) (omega arith)))
-      _ (opened-before answer _ _)
+  module _ (u : Unit {0}) (t : Takes answer at letter 65 (part commitment 0 32) (Ok u)) where
+    root-on : (q : Question) → GoesOn answer (check_proof letter q commitment at (drop at answer)) (entities_at q answer (at + 65) (at + 17))
+    unfolding check_proof entities_at
+    root-on q =
+        let h = passed (root_taking (Ok u) t) in
+        let n = length-drop at answer in
+        let m = length-drop (at + 65) answer in
+        let w = h.inside in
+        let k = subtree_at answer at 65 w 17 (at + 17) (omega arith) refl in
+        as_well answer
+        (bind_eq _ _ (take 65 (drop at answer)) h.is
+        ∙ ap₂ (λ (x : Bytes) (y : Subtree). check_entities q (length (drop at answer)) y (at + 65) x >>= λ z. ok (opening (take 65 (drop at answer)) z)) (drop-drop 65 at answer) k
+        ∙ ap (λ (m : Result CheckedProof). m >>= λ z. ok (opening (take 65 (drop at answer)) z))
+        (entities_fuel q (length (drop at answer)) (length (drop (at + 65) answer)) (subtree_in answer (at + 17)) (at + 65) (drop (at + 65) answer) (omega arith) (omega arith)))
+        _ (opened-before answer _ _)
 
-  pub root-taken : r ≡ Taken → (x : EntitySearch) → SearchIs answer s (λ q. entities_at q answer (at + 65) (at + 17)) x → FoundBy x
-  root-taken e x S = search_back answer s _ _ (root-on e) x S
+    pub root-taken : (x : std.Result EntitySearch Refusal) → (known : ℕ) → known ≡ at + 17 → SearchIs answer s (λ q. entities_at q answer (at + 65) known) x → FoundBy x
+    root-taken x known e S = search_back answer s _ _ root-on x (subst (λ (k : ℕ). SearchIs answer s (λ q. entities_at q answer (at + 65) k) x) e S)
 
 -- ---- behind G
 
-module _ (answer : Bytes) (s : ℕ) (check : Question → Result CheckedProof) (r : EntitySearch) (S : SearchIs answer s check r) where
-  search_is : (x : EntitySearch) → r ≡ x → SearchIs answer s check x
-  search_is x e = subst (λ (y : EntitySearch). SearchIs answer s check y) e S
-
-  pub group-there : (at : ℕ) → r ≡ ToGroup at → at + 57 ≤ length answer
-  group-there at e = go (search_is (ToGroup at) e)
-    where
-      go : SearchIs answer s check (ToGroup at) → at + 57 ≤ length answer
-      go (to_group _ h k) = h
+module _ (answer : Bytes) (s : ℕ) (check : Question → Result CheckedProof) where
+  pub search_is : (x y : EntitySearch) → SearchIs answer s check (Ok x) → x ≡ y → SearchIs answer s check (Ok y)
+  search_is x y S e = subst (λ (z : EntitySearch). SearchIs answer s check (Ok z)) e S
 
   module _ (q : Question) (of : entity_of q ≡ s) where
-    pub search_refused : (n p : ℕ) → r ≡ Unsought n p → check q ≡ refuse n p
-    search_refused n p e = go (search_is (Unsought n p) e)
-      where
-        go : SearchIs answer s check (Unsought n p) → check q ≡ refuse n p
-        go (unsought _ _ k) = k q of
+    pub search_refused : (e : Refusal) → SearchIs answer s check (Err e) → RefusedBy (check q) e
+    search_refused e (unsought _ k) = k q of
 
-    pub search_none : (at : ℕ) → r ≡ ToNothing at → Gives answer (check q) (SearchEnd.not_found no_entity) at
-    search_none at e = go (search_is (ToNothing at) e)
-      where
-        go : SearchIs answer s check (ToNothing at) → Gives answer (check q) (SearchEnd.not_found no_entity) at
-        go (to_nothing _ k) = k q of
+    pub search_none : (at : ℕ) → SearchIs answer s check (Ok (ToNothing at)) → Gives answer (check q) (SearchEnd.not_found no_entity) at
+    search_none at (to_nothing _ k) = k q of
 
-    pub search_on : (at : ℕ) → r ≡ ToGroup at → GoesOn answer (check q) (sought_at q answer (at + 57) (at + 9))
-    search_on at e = go (search_is (ToGroup at) e)
-      where
-        go : SearchIs answer s check (ToGroup at) → GoesOn answer (check q) (sought_at q answer (at + 57) (at + 9))
-        go (to_group _ h k) = k q of
+    pub search_on : (at : ℕ) → SearchIs answer s check (Ok (ToGroup at)) → GoesOn answer (check q) (sought_at q answer (at + 57) (at + 9))
+    search_on at (to_group _ h k) = k q of
 
 -- ---- the proof for one version
 
-module _ (answer commitment : Bytes) (at letter : ℕ) (q : VersionQuestion) (r : EntitySearch)
-    (S : SearchIs answer q.entity (λ q. check_proof letter q commitment at (drop at answer)) r)
-  where
-    abbrev Proved : Proof → Type 0
-    Proved p = ProofIs answer (check_proof letter (one q) commitment at (drop at answer)) p
+module _ (answer commitment : Bytes) (at letter : ℕ) (q : VersionQuestion) where
+  abbrev Searched : std.Result EntitySearch Refusal → Type 0
+  Searched r = SearchIs answer q.entity (λ q. check_proof letter q commitment at (drop at answer)) r
 
-    pub one-refused : (n p : ℕ) → r ≡ Unsought n p → Proved (Refused n p)
-    one-refused n p e = refused n p (search_refused answer q.entity _ r S (one q) refl n p e)
+  abbrev Proved : std.Result Proof Refusal → Type 0
+  Proved p = ProofIs answer (check_proof letter (one q) commitment at (drop at answer)) p
 
-    pub one_missing : (end : ℕ) → r ≡ ToNothing end → Proved (Stopped NoEntity end)
+  pub one-refused : (e : Refusal) → Searched (Err e) → Proved (Err e)
+  one-refused e S = refused e (search_refused answer q.entity _ (one q) refl e S)
+
+  module _ (x : EntitySearch) (S : Searched (Ok x)) where
+    pub one_missing : (end : ℕ) → x ≡ ToNothing end → Proved (Ok (Stopped NoEntity end))
     unfolding stop_of
-    one_missing end e = stopped NoEntity no_entity end refl (search_none answer q.entity _ r S (one q) refl end e)
+    one_missing end e =
+        stopped NoEntity no_entity end refl (search_none answer q.entity _ (one q) refl end (search_is answer q.entity _ x (ToNothing end) S e))
 
-    pub one-sought : (group : ℕ) → r ≡ ToGroup group → (p : Proof) → ProofIs answer (versions_at q.relation q.time answer (group + 57) (group + 9)) p → Proved p
+    pub one-sought : (group : ℕ) → x ≡ ToGroup group → (known : ℕ) → known ≡ group + 9
+        → (p : std.Result Proof Refusal) → ProofIs answer (versions_at q.relation q.time answer (group + 57) known) p → Proved p
     unfolding versions_at sought_at check_sought
-    one-sought group e p P = proof_back answer (search_on answer q.entity _ r S (one q) refl group e) p P
+    one-sought group e known k p P =
+        proof_back answer (search_on answer q.entity _ (one q) refl group (search_is answer q.entity _ x (ToGroup group) S e)) p
+        (subst (λ (n : ℕ). ProofIs answer (versions_at q.relation q.time answer (group + 57) n) p) k P)

@@ -1,18 +1,18 @@
 -- All strings of an entity's tree that two times open, read in preorder, and the list of the versions that they name. A known subtree is kept
 -- as the place of its 48 bytes in the answer. Assumes nothing.
-use Rattle.std.specs.Prelude.{◌≡◌, Bool, true, false, ◌||◌, List, [], ◌∷◌, map, ℕ, ◌+◌, ◌*◌, ◌≤◌, eqb, leb, length, get_or, take, drop}
+use Rattle.std.specs.Prelude.{◌≡◌, Bool, true, false, ◌||◌, List, [], ◌∷◌, map, ℕ, ◌+◌, ◌*◌, ◌≤◌, eqb, leb, length, get_or, take, drop, Ok, Err}
+use Rattle.std.specs.Prelude as std
 use Rattle.model.specs.Numbers.{Bytes}
-use Rattle.model.specs.Result.{Result, ok, refuse}
+use Rattle.model.specs.Result.{Result, ok}
 use Rattle.model.specs.Accumulator.{letter_L, letter_N, L_width, branch_width, Subtree, Leaf}
 use Rattle.model.specs.Question.{SpanQuestion, no_entity, SearchEnd, within, VersionName, name_width}
 use Rattle.model.specs.CheckRows.{CheckedProof, subtree_in, leaf_in, CheckedAll, none_due, check_all, leaf_name}
+use Rattle.outcome.specs.declared.Refusal.{Refusal}
 use Rattle.proof_reader.specs.declared.Opening.{Opening}
-use Rattle.proof_reader.specs.declared.Opening.TheVariants.{Refused as Unopened}
 use Rattle.proof_reader.specs.declared.Span.{Span}
-use Rattle.proof_reader.specs.declared.Span.TheVariants.{Read, Refused}
 use Rattle.proof_reader.specs.declared.ListProof.{ListProof}
-use Rattle.proof_reader.specs.declared.ListProof.TheVariants.{NoEntity, Listed as ToList, Refused as Unlisted}
-use Rattle.proof_reader.specs.Walks.{Opens, Gives}
+use Rattle.proof_reader.specs.declared.ListProof.TheVariants.{NoEntity, Listed as ToList}
+use Rattle.proof_reader.specs.Walks.{RefusedBy, Opens, Gives}
 
 -- ---- one string
 
@@ -21,9 +21,9 @@ unfoldable pub letter_due : ℕ → Subtree → Bool
 letter_due n k = leb 1 n || eqb k.least k.greatest
 
 -- its string, or the row that it meets
-pub data DueOpens (n : ℕ) (answer : Bytes) (at : ℕ) (k : Subtree) : Opening → Type 0 where
-  due : (r : Opening) → letter_due n k ≡ true → Opens letter_L L_width letter_N answer at k r → DueOpens n answer at k r
-  not_due : (number : ℕ) → letter_due n k ≡ false → none_due at (drop at answer) ≡ refuse number at → DueOpens n answer at k (Unopened number)
+pub data DueOpens (n : ℕ) (answer : Bytes) (at : ℕ) (k : Subtree) : std.Result Opening Refusal → Type 0 where
+  due : (r : std.Result Opening Refusal) → letter_due n k ≡ true → Opens letter_L L_width letter_N answer at k r → DueOpens n answer at k r
+  not_due : (e : Refusal) → letter_due n k ≡ false → RefusedBy (none_due at (drop at answer)) e → DueOpens n answer at k (Err e)
 
 -- ---- all strings
 
@@ -41,17 +41,9 @@ pub record Reads (answer : Bytes) (m : Result CheckedAll) (at count : ℕ) : Typ
   pub inside : at ≤ length answer
 
 -- they were, or the row met and where
-pub data SpanIs (answer : Bytes) (m : Result CheckedAll) : Span → Type 0 where
-  read : (at count : ℕ) → Reads answer m at count → SpanIs answer m (Read at count)
-  refused : (number position : ℕ) → m ≡ refuse number position → SpanIs answer m (Refused number position)
-
-unfoldable pub leaves_of : Span → ℕ
-leaves_of (Read at count) = count
-leaves_of (Refused number position) = 0
-
-unfoldable pub counted_on : ℕ → Span → Span
-counted_on count (Read at more) = Read at (count + more)
-counted_on count (Refused number position) = Refused number position
+pub data SpanIs (answer : Bytes) (m : Result CheckedAll) : std.Result Span Refusal → Type 0 where
+  read : (r : Span) → Reads answer m r.at r.count → SpanIs answer m (Ok r)
+  refused : (e : Refusal) → RefusedBy m e → SpanIs answer m (Err e)
 
 -- ---- the proof of a list
 
@@ -71,10 +63,10 @@ pub record ListStrings (answer : Bytes) (start end count : ℕ) : Type 0 where
   pub few : count ≤ 65536
 
 -- how it ends, or the row that it meets and where
-pub data ListIs (answer : Bytes) (m : Result CheckedProof) : ListProof → Type 0 where
-  without : (at : ℕ) → Gives answer m (SearchEnd.not_found no_entity) at → ListIs answer m (NoEntity at)
-  lists : (start end count : ℕ) (l : ListStrings answer start end count) → Gives answer m (SearchEnd.listed l.leaves) end → ListIs answer m (ToList start end count)
-  unlisted : (number position : ℕ) → m ≡ refuse number position → ListIs answer m (Unlisted number position)
+pub data ListIs (answer : Bytes) (m : Result CheckedProof) : std.Result ListProof Refusal → Type 0 where
+  without : (at : ℕ) → Gives answer m (SearchEnd.not_found no_entity) at → ListIs answer m (Ok (NoEntity at))
+  lists : (start end count : ℕ) (l : ListStrings answer start end count) → Gives answer m (SearchEnd.listed l.leaves) end → ListIs answer m (Ok (ToList start end count))
+  unlisted : (e : Refusal) → RefusedBy m e → ListIs answer m (Err e)
 
 -- ---- the list
 

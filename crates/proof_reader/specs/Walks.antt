@@ -1,22 +1,27 @@
 -- The reader's answers as document 01's definitions give them. A known subtree is kept as the place of its 48 bytes in the answer.
 -- Assumes nothing.
-use Rattle.std.specs.Prelude.{◌≡◌, true, false, cond, ℕ, ◌+◌, ◌≤◌, eqb, length, take, drop}
+use Rattle.std.specs.Prelude.{◌≡◌, true, false, cond, ℕ, ◌+◌, ◌≤◌, eqb, length, take, drop, Ok, Err}
+use Rattle.std.specs.Prelude as std
 use Rattle.model.specs.Numbers.{Bytes, TimeKey}
 use Rattle.model.specs.Result.{Result, ok, refuse}
 use Rattle.model.specs.Accumulator.{G_width, L_width, branch_width, Subtree, Leaf}
 use Rattle.model.specs.Question as model
 use Rattle.model.specs.Question.{Relation, Question, entity_of, SearchEnd, Descent}
 use Rattle.model.specs.CheckRows.{take_string, CheckedProof, subtree_in, leaf_in, check_versions, check_sought, check_entities}
-use Rattle.proof_reader.specs.declared.Taking.{Taking}
-use Rattle.proof_reader.specs.declared.Taking.TheVariants.{Taken, Refused as Cut}
+use Rattle.outcome.specs.declared.Refusal.{Refusal}
+use Rattle.outcome.specs.Outcomes.{number_of}
 use Rattle.proof_reader.specs.declared.Opening.{Opening}
-use Rattle.proof_reader.specs.declared.Opening.TheVariants.{Leaf as LeafTaken, Inner as InnerTaken, Refused as Unopened}
+use Rattle.proof_reader.specs.declared.Opening.TheVariants.{Leaf as LeafTaken, Inner as InnerTaken}
 use Rattle.proof_reader.specs.declared.Stop.{Stop}
 use Rattle.proof_reader.specs.declared.Stop.TheVariants.{NoEntity, NotYet, NoneSoLate}
 use Rattle.proof_reader.specs.declared.EntitySearch.{EntitySearch}
-use Rattle.proof_reader.specs.declared.EntitySearch.TheVariants.{NoEntity as ToNothing, Group as ToGroup, Refused as Unsought}
+use Rattle.proof_reader.specs.declared.EntitySearch.TheVariants.{NoEntity as ToNothing, Group as ToGroup}
 use Rattle.proof_reader.specs.declared.Proof.{Proof}
-use Rattle.proof_reader.specs.declared.Proof.TheVariants.{Stopped, Found, Refused}
+use Rattle.proof_reader.specs.declared.Proof.TheVariants.{Stopped, Found}
+
+-- m is turned away, and so by e
+abbrev pub RefusedBy : {A : Type 0} → Result A → Refusal → Type 0
+RefusedBy m e = m ≡ refuse (number_of e.row) e.position
 
 -- ---- strings
 
@@ -26,19 +31,19 @@ pub record Passes (answer : Bytes) (at letter width : ℕ) (due : Bytes) : Type 
   pub is : take_string letter width due at (drop at answer) ≡ ok (take width (drop at answer))
 
 -- it does, or the row that it meets
-pub data Takes (answer : Bytes) (at letter width : ℕ) (due : Bytes) : Taking → Type 0 where
-  taken : Passes answer at letter width due → Takes answer at letter width due Taken
-  cut : (number : ℕ) → take_string letter width due at (drop at answer) ≡ refuse number at → Takes answer at letter width due (Cut number)
+pub data Takes (answer : Bytes) (at letter width : ℕ) (due : Bytes) : std.Result (Unit {0}) Refusal → Type 0 where
+  taken : Passes answer at letter width due → Takes answer at letter width due (Ok tt)
+  cut : (e : Refusal) → RefusedBy (take_string letter width due at (drop at answer)) e → Takes answer at letter width due (Err e)
 
 -- the string of the known subtree k, a leaf's if its keys are equal
 unfoldable pub string_due : ℕ → ℕ → ℕ → Subtree → ℕ → Bytes → Result Bytes
 string_due leaf width inner k pos x =
     cond (eqb k.least k.greatest) (take_string leaf width k.digest pos x) (take_string inner branch_width k.digest pos x)
 
-pub data Opens (leaf width inner : ℕ) (answer : Bytes) (at : ℕ) (k : Subtree) : Opening → Type 0 where
-  at_leaf : eqb k.least k.greatest ≡ true → Passes answer at leaf width k.digest → Opens leaf width inner answer at k LeafTaken
-  at_inner : eqb k.least k.greatest ≡ false → Passes answer at inner branch_width k.digest → Opens leaf width inner answer at k InnerTaken
-  unopened : (number : ℕ) → string_due leaf width inner k at (drop at answer) ≡ refuse number at → Opens leaf width inner answer at k (Unopened number)
+pub data Opens (leaf width inner : ℕ) (answer : Bytes) (at : ℕ) (k : Subtree) : std.Result Opening Refusal → Type 0 where
+  at_leaf : eqb k.least k.greatest ≡ true → Passes answer at leaf width k.digest → Opens leaf width inner answer at k (Ok LeafTaken)
+  at_inner : eqb k.least k.greatest ≡ false → Passes answer at inner branch_width k.digest → Opens leaf width inner answer at k (Ok InnerTaken)
+  unopened : (e : Refusal) → RefusedBy (string_due leaf width inner k at (drop at answer)) e → Opens leaf width inner answer at k (Err e)
 
 -- ---- the rules of the walks
 
@@ -80,14 +85,14 @@ pub record GoesOn (answer : Bytes) (m n : Result CheckedProof) : Type 0 where
   pub refuses : (number position : ℕ) → n ≡ refuse number position → m ≡ refuse number position
 
 -- the walk to the entity s, for every question of it: it ends there, or goes on behind a string G, or meets a row
-pub data SearchIs (answer : Bytes) (s : ℕ) (check : Question → Result CheckedProof) : EntitySearch → Type 0 where
-  to_nothing : (at : ℕ) → ((q : Question) → entity_of q ≡ s → Gives answer (check q) (SearchEnd.not_found model.no_entity) at) → SearchIs answer s check (ToNothing at)
+pub data SearchIs (answer : Bytes) (s : ℕ) (check : Question → Result CheckedProof) : std.Result EntitySearch Refusal → Type 0 where
+  to_nothing : (at : ℕ) → ((q : Question) → entity_of q ≡ s → Gives answer (check q) (SearchEnd.not_found model.no_entity) at) → SearchIs answer s check (Ok (ToNothing at))
   to_group : (at : ℕ) → at + G_width ≤ length answer → ((q : Question) → entity_of q ≡ s → GoesOn answer (check q) (sought_at q answer (at + G_width) (at + 9)))
-      → SearchIs answer s check (ToGroup at)
-  unsought : (number position : ℕ) → ((q : Question) → entity_of q ≡ s → check q ≡ refuse number position) → SearchIs answer s check (Unsought number position)
+      → SearchIs answer s check (Ok (ToGroup at))
+  unsought : (e : Refusal) → ((q : Question) → entity_of q ≡ s → RefusedBy (check q) e) → SearchIs answer s check (Err e)
 
 -- how it ends, or the row that it meets and where
-pub data ProofIs (answer : Bytes) (m : Result CheckedProof) : Proof → Type 0 where
-  stopped : (s : Stop) (e : model.Stop) (at : ℕ) → s ≡ stop_of e → Gives answer m (SearchEnd.not_found e) at → ProofIs answer m (Stopped s at)
-  found : (leaf at : ℕ) → at ≡ leaf + L_width → Gives answer m (SearchEnd.found (leaf_in (take L_width (drop leaf answer)))) at → ProofIs answer m (Found leaf at)
-  refused : (number position : ℕ) → m ≡ refuse number position → ProofIs answer m (Refused number position)
+pub data ProofIs (answer : Bytes) (m : Result CheckedProof) : std.Result Proof Refusal → Type 0 where
+  stopped : (s : Stop) (e : model.Stop) (at : ℕ) → s ≡ stop_of e → Gives answer m (SearchEnd.not_found e) at → ProofIs answer m (Ok (Stopped s at))
+  found : (leaf at : ℕ) → at ≡ leaf + L_width → Gives answer m (SearchEnd.found (leaf_in (take L_width (drop leaf answer)))) at → ProofIs answer m (Ok (Found leaf at))
+  refused : (e : Refusal) → RefusedBy m e → ProofIs answer m (Err e)

@@ -6,15 +6,17 @@ ghost use Rattle.std.specs.Prelude.{◌≡◌, map, ℕ, ◌+◌, ◌≤◌, len
 ghost use Rattle.fields.specs.Fields.{part, field, written};
 ghost use Rattle.round_constants.specs.Constants.{K};
 ghost use Rattle.model.specs.Accumulator.{G_width, L_width, branch_width};
-ghost use Rattle.model.specs.Question.{by_entity, by_time, spanned, one, all, within, name_width, name_string};
+ghost use Rattle.model.specs.Question.{by_entity, by_time, all, one, within, name_width, name_string};
 ghost use Rattle.model.specs.CheckRows.{subtree_in, leaf_in, path_limit, leaf_name, check_proof};
 ghost use Rattle.model.specs.Numbers.{digest_width, joined};
 ghost use Rattle.question.specs.Directions.{relation_of, question_of, span_of};
 ghost use Rattle.proof_reader.specs.Walks.{Takes, Opens, side_of, stop_of, versions_at, entities_at, sought_at, SearchIs, ProofIs};
-ghost use Rattle.proof_reader.specs.Spans.{letter_due, DueOpens, leaves_of, counted_on, all_at, SpanIs, ListIs, Listed};
+ghost use Rattle.proof_reader.specs.Spans.{letter_due, DueOpens, all_at, SpanIs, ListIs, Listed};
 
 use model::{LETTER_G, LETTER_L, LETTER_N, LETTER_P};
+use outcome::{Refusal, Row};
 use question::{EntityKey, Question, Relation, SpanQuestion, TimeKey};
+use std::marker::PhantomData;
 use strings::{
     BRANCH_LEFT, BRANCH_RIGHT, BRANCH_WIDTH, DIGEST_WIDTH, G_VERSIONS, G_WIDTH, L_ENTITY, L_TIME,
     L_WIDTH, NAME_TIME, NAME_WIDTH, R_TREE, R_WIDTH, SUBTREE_DIGEST, SUBTREE_GREATEST,
@@ -22,14 +24,7 @@ use strings::{
 
 // ---- strings
 
-// A string is there, or the row that it meets.
-#[derive(Clone, Copy)]
-enum Taking {
-    Taken,
-    Refused { number: u64 },
-}
-
-// The string of `width` bytes at a place: 15 (no byte), 16, 15 (width), 17. The digest due stands at a place of `digests`.
+// The string of `width` bytes at a place is there: 15 (no byte), 16, 15 (width), 17. The digest due stands at a place of `digests`.
 fn take_string(
     answer: &[u8],
     at: usize,
@@ -38,124 +33,151 @@ fn take_string(
     digests: &[u8],
     due: usize,
     constants: &[u32; 64],
-) -> Taking
+) -> Result<(), Refusal>
     requires { ((at ≤ length answer.now) × (due + digest_width ≤ length digests.now)) × (constants.now ≡ K) }
     ensures { Takes answer.now at letter width (part digests.now due digest_width) result }
 {
     let left = answer.len() - at;
     if left == 0 {
-        return Taking::Refused { number: 15 };
+        return Err(Row::AnswerCut.at(at));
     }
     if answer[at] != letter {
-        return Taking::Refused { number: 16 };
+        return Err(Row::LetterNotDue.at(at));
     }
     if left < width {
-        return Taking::Refused { number: 15 };
+        return Err(Row::AnswerCut.at(at));
     }
-    let end = at + width;
-    let digest = sha256::digest(&answer[at..end], constants);
+    let digest = sha256::digest(&answer[at..at + width], constants);
     if fields::same(&digest, 0, digests, due, DIGEST_WIDTH) {
-        return Taking::Taken;
+        return Ok(());
     }
-    Taking::Refused { number: 17 }
+    Err(Row::DigestNotDue.at(at))
 }
 
-// The kind of string that was taken, or the row that it meets.
+// The strings of a tree: a leaf's letter and width, and an inner one's letter.
+#[derive(Clone, Copy)]
+struct Layout {
+    leaf: u8,
+    width: usize,
+    inner: u8,
+}
+
+const ENTITY_TREE: Layout = Layout {
+    leaf: LETTER_G,
+    width: G_WIDTH,
+    inner: LETTER_P,
+};
+
+const VERSION_TREE: Layout = Layout {
+    leaf: LETTER_L,
+    width: L_WIDTH,
+    inner: LETTER_N,
+};
+
+// The kind of string that was taken.
 #[derive(Clone, Copy)]
 enum Opening {
     Leaf,
     Inner,
-    Refused { number: u64 },
 }
 
 // Takes the string of a subtree, which is known by the 48 bytes at a place of the answer: a leaf's if its keys are equal.
 fn open(
+    layout: Layout,
     answer: &[u8],
     at: usize,
     known: usize,
-    leaf: u8,
-    width: usize,
-    inner: u8,
     constants: &[u32; 64],
-) -> Opening
+) -> Result<Opening, Refusal>
     requires { ((at ≤ length answer.now) × (known + 48 ≤ length answer.now)) × (constants.now ≡ K) }
-    ensures { Opens leaf width inner answer.now at (subtree_in answer.now known) result }
+    ensures { Opens layout.leaf layout.width layout.inner answer.now at (subtree_in answer.now known) result }
 {
+    let Layout { leaf, width, inner } = layout;
     let least = fields::get_u64(answer, known);
     let greatest = fields::get_u64(answer, known + SUBTREE_GREATEST);
     let digest = known + SUBTREE_DIGEST;
     if least == greatest {
-        return match take_string(answer, at, leaf, width, answer, digest, constants) {
-            Taking::Taken => Opening::Leaf,
-            Taking::Refused { number } => Opening::Refused { number: number },
-        };
+        take_string(answer, at, leaf, width, answer, digest, constants)?;
+        return Ok(Opening::Leaf);
     }
-    match take_string(answer, at, inner, BRANCH_WIDTH, answer, digest, constants) {
-        Taking::Taken => Opening::Inner,
-        Taking::Refused { number } => Opening::Refused { number: number },
-    }
+    take_string(answer, at, inner, BRANCH_WIDTH, answer, digest, constants)?;
+    Ok(Opening::Inner)
 }
 
 // ---- the rules of the walks
 
-// Where a known subtree stands in the answer. In the tree of entities its keys are entities, in one entity's tree they are times.
-#[derive(Clone, Copy)]
-struct EntityTreeAt(usize);
+// The keys of a tree: each is made of the number that stands for it in a string.
+trait Key: Copy {
+    ghost number: { Self → ℕ };
 
-#[derive(Clone, Copy)]
-struct VersionTreeAt(usize);
+    fn of_number(n: u64) -> Self
+        ensures { number result ≡ n };
+}
 
-impl EntityTreeAt {
-    fn least(self, answer: &[u8]) -> EntityKey
-        requires { self.0 + 48 ≤ length answer.now }
-        ensures { result.0 ≡ field 8 answer.now self.0 }
-    {
-        EntityKey(fields::get_u64(answer, self.0))
-    }
+impl Key for EntityKey {
+    ghost number = { λ key. key.0 };
 
-    fn greatest(self, answer: &[u8]) -> EntityKey
-        requires { self.0 + 48 ≤ length answer.now }
-        ensures { result.0 ≡ field 8 answer.now (self.0 + 8) }
-    {
-        EntityKey(fields::get_u64(answer, self.0 + SUBTREE_GREATEST))
+    fn of_number(n: u64) -> EntityKey {
+        EntityKey(n)
     }
 }
 
-impl VersionTreeAt {
-    fn least(self, answer: &[u8]) -> TimeKey
-        requires { self.0 + 48 ≤ length answer.now }
-        ensures { result.0 ≡ field 8 answer.now self.0 }
+impl Key for TimeKey {
+    ghost number = { λ key. key.0 };
+
+    fn of_number(n: u64) -> TimeKey {
+        TimeKey(n)
+    }
+}
+
+// Where a known subtree stands in the answer. In the tree of entities its keys are entities, in one entity's tree they are times.
+#[derive(Clone, Copy)]
+struct TreeAt<K> {
+    at: usize,
+    keys: PhantomData<K>,
+}
+
+impl<K: Key> TreeAt<K> {
+    fn new(at: usize) -> TreeAt<K>
+        ensures { result.at ≡ at }
     {
-        TimeKey(fields::get_u64(answer, self.0))
+        TreeAt {
+            at,
+            keys: PhantomData,
+        }
     }
 
-    fn greatest(self, answer: &[u8]) -> TimeKey
-        requires { self.0 + 48 ≤ length answer.now }
-        ensures { result.0 ≡ field 8 answer.now (self.0 + 8) }
+    fn least(self, answer: &[u8]) -> K
+        requires { self.at + 48 ≤ length answer.now }
+        ensures { K.number result ≡ field 8 answer.now self.at }
     {
-        TimeKey(fields::get_u64(answer, self.0 + SUBTREE_GREATEST))
+        K::of_number(fields::get_u64(answer, self.at))
+    }
+
+    fn greatest(self, answer: &[u8]) -> K
+        requires { self.at + 48 ≤ length answer.now }
+        ensures { K.number result ≡ field 8 answer.now (self.at + 8) }
+    {
+        K::of_number(fields::get_u64(answer, self.at + SUBTREE_GREATEST))
     }
 }
 
 // Whether an entity lies outside the known keys.
-fn outside(answer: &[u8], tree: EntityTreeAt, entity: EntityKey) -> bool
-    requires { tree.0 + 48 ≤ length answer.now }
-    ensures { result ≡ (by_entity entity.0).stops (subtree_in answer.now tree.0) }
+fn outside(answer: &[u8], tree: TreeAt<EntityKey>, entity: EntityKey) -> bool
+    requires { tree.at + 48 ≤ length answer.now }
+    ensures { result ≡ (by_entity entity.0).stops (subtree_in answer.now tree.at) }
 {
-    if entity.below(tree.least(answer)) {
-        return true;
-    }
-    tree.greatest(answer).below(entity)
+    entity < tree.least(answer) || tree.greatest(answer) < entity
 }
 
 // Whether no version below the known keys meets the time: looking back all are after it, looking ahead all are before it.
-fn unmet(relation: Relation, answer: &[u8], tree: VersionTreeAt, time: TimeKey) -> bool
-    requires { tree.0 + 48 ≤ length answer.now }
-    ensures { result ≡ (by_time (relation_of relation) time.0).stops (subtree_in answer.now tree.0) }
+fn unmet(question: Question, answer: &[u8], tree: TreeAt<TimeKey>) -> bool
+    requires { tree.at + 48 ≤ length answer.now }
+    ensures { result ≡ (by_time (relation_of question.relation) question.time.0).stops (subtree_in answer.now tree.at) }
 {
-    match relation {
-        Relation::AtOrBefore => time.below(tree.least(answer)),
-        Relation::AtOrAfter => tree.greatest(answer).below(time),
+    match question.relation {
+        Relation::AtOrBefore => question.time < tree.least(answer),
+        Relation::AtOrAfter => tree.greatest(answer) < question.time,
     }
 }
 
@@ -167,55 +189,58 @@ pub enum Stop {
     NoneSoLate { last: TimeKey },
 }
 
-fn stop_at(relation: Relation, answer: &[u8], tree: VersionTreeAt) -> Stop
-    requires { tree.0 + 48 ≤ length answer.now }
-    ensures { (t : ℕ) → result ≡ stop_of ((by_time (relation_of relation) t).stop_at (subtree_in answer.now tree.0)) }
+fn stop_at(relation: Relation, answer: &[u8], tree: TreeAt<TimeKey>) -> Stop
+    requires { tree.at + 48 ≤ length answer.now }
+    ensures { (t : ℕ) → result ≡ stop_of ((by_time (relation_of relation) t).stop_at (subtree_in answer.now tree.at)) }
 {
     match relation {
         Relation::AtOrBefore => {
             let first = tree.least(answer);
-            Stop::NotYet { first: first }
+            Stop::NotYet { first }
         }
         Relation::AtOrAfter => {
             let last = tree.greatest(answer);
-            Stop::NoneSoLate { last: last }
+            Stop::NoneSoLate { last }
         }
     }
 }
 
 // The side of the string P at a place: left if the entity is at most the left's greatest key.
-fn entity_side(answer: &[u8], at: usize, entity: EntityKey) -> EntityTreeAt
+fn entity_side(answer: &[u8], at: usize, entity: EntityKey) -> TreeAt<EntityKey>
     requires { at + branch_width ≤ length answer.now }
-    ensures { result.0 ≡ side_of (by_entity entity.0) answer.now at }
+    ensures { result.at ≡ side_of (by_entity entity.0) answer.now at }
 {
-    let left = EntityTreeAt(at + BRANCH_LEFT);
-    let right = EntityTreeAt(at + BRANCH_RIGHT);
-    if left.greatest(answer).below(entity) {
-        return right;
+    let left = TreeAt::<EntityKey>::new(at + BRANCH_LEFT);
+    let right = TreeAt::<EntityKey>::new(at + BRANCH_RIGHT);
+    if left.greatest(answer) < entity {
+        right
+    } else {
+        left
     }
-    left
 }
 
 // The side of the string N at a place: looking back, right if the time is at least the right's least key; looking ahead, left if it is at
 // most the left's greatest key.
-fn version_side(relation: Relation, answer: &[u8], at: usize, time: TimeKey) -> VersionTreeAt
+fn version_side(question: Question, answer: &[u8], at: usize) -> TreeAt<TimeKey>
     requires { at + branch_width ≤ length answer.now }
-    ensures { result.0 ≡ side_of (by_time (relation_of relation) time.0) answer.now at }
+    ensures { result.at ≡ side_of (by_time (relation_of question.relation) question.time.0) answer.now at }
 {
-    let left = VersionTreeAt(at + BRANCH_LEFT);
-    let right = VersionTreeAt(at + BRANCH_RIGHT);
-    match relation {
+    let left = TreeAt::<TimeKey>::new(at + BRANCH_LEFT);
+    let right = TreeAt::<TimeKey>::new(at + BRANCH_RIGHT);
+    match question.relation {
         Relation::AtOrBefore => {
-            if time.below(right.least(answer)) {
-                return left;
+            if question.time < right.least(answer) {
+                left
+            } else {
+                right
             }
-            right
         }
         Relation::AtOrAfter => {
-            if left.greatest(answer).below(time) {
-                return right;
+            if left.greatest(answer) < question.time {
+                right
+            } else {
+                left
             }
-            left
         }
     }
 }
@@ -223,128 +248,93 @@ fn version_side(relation: Relation, answer: &[u8], at: usize, time: TimeKey) -> 
 // ---- all versions between two times, in preorder
 
 // Whether the times known of a subtree meet those between the two.
-fn meets(answer: &[u8], tree: VersionTreeAt, from: TimeKey, to: TimeKey) -> bool
-    requires { tree.0 + 48 ≤ length answer.now }
-    ensures { (s : ℕ) → result ≡ within (spanned s from.0 to.0) (subtree_in answer.now tree.0) }
+fn meets(span: SpanQuestion, answer: &[u8], tree: TreeAt<TimeKey>) -> bool
+    requires { tree.at + 48 ≤ length answer.now }
+    ensures { result ≡ within (span_of span) (subtree_in answer.now tree.at) }
 {
-    if to.below(tree.least(answer)) {
-        return false;
-    }
-    !tree.greatest(answer).below(from)
+    tree.least(answer) <= span.to && span.from <= tree.greatest(answer)
 }
 
 // Whether a letter is due for the string of a subtree, where n more N may stand on its path: L if its keys are equal.
-fn letter_due(answer: &[u8], tree: VersionTreeAt, n: usize) -> bool
-    requires { tree.0 + 48 ≤ length answer.now }
-    ensures { result ≡ letter_due n (subtree_in answer.now tree.0) }
+fn letter_due(answer: &[u8], tree: TreeAt<TimeKey>, n: usize) -> bool
+    requires { tree.at + 48 ≤ length answer.now }
+    ensures { result ≡ letter_due n (subtree_in answer.now tree.at) }
 {
-    if n != 0 {
-        return true;
-    }
-    tree.least(answer).same(tree.greatest(answer))
+    n != 0 || tree.least(answer) == tree.greatest(answer)
 }
 
 // Takes the string of a subtree, where n more N may stand on its path. Where no letter is due: 15 (no byte), 16.
 fn open_due(
     answer: &[u8],
     at: usize,
-    tree: VersionTreeAt,
+    tree: TreeAt<TimeKey>,
     n: usize,
     constants: &[u32; 64],
-) -> Opening
-    requires { ((at ≤ length answer.now) × (tree.0 + 48 ≤ length answer.now)) × (constants.now ≡ K) }
-    ensures { DueOpens n answer.now at (subtree_in answer.now tree.0) result }
+) -> Result<Opening, Refusal>
+    requires { ((at ≤ length answer.now) × (tree.at + 48 ≤ length answer.now)) × (constants.now ≡ K) }
+    ensures { DueOpens n answer.now at (subtree_in answer.now tree.at) result }
 {
     if letter_due(answer, tree, n) {
-        return open(answer, at, tree.0, LETTER_L, L_WIDTH, LETTER_N, constants);
+        return open(VERSION_TREE, answer, at, tree.at, constants);
     }
-    if at == answer.len() {
-        return Opening::Refused { number: 15 };
-    }
-    Opening::Refused { number: 16 }
+    let row = if at == answer.len() {
+        Row::AnswerCut
+    } else {
+        Row::LetterNotDue
+    };
+    Err(row.at(at))
 }
 
-// The byte behind the last string and the number of leaves opened, or the row met and where.
+// The byte behind the last string, and the number of leaves opened.
 #[derive(Clone, Copy)]
-enum Span {
-    Read { at: usize, count: usize },
-    Refused { number: u64, position: usize },
-}
-
-// A span behind so many leaves: they are counted with its own.
-fn counted_on(count: usize, span: Span) -> Span
-    requires { count + leaves_of span ≤ 131072 }
-    ensures { result ≡ counted_on count span }
-{
-    match span {
-        Span::Read { at, count: more } => Span::Read {
-            at: at,
-            count: count + more,
-        },
-        Span::Refused { number, position } => Span::Refused {
-            number: number,
-            position: position,
-        },
-    }
+struct Span {
+    at: usize,
+    count: usize,
 }
 
 // All strings of a subtree that the times open, in preorder; n more N may stand on its path. That bounds its depth, so it is a recursion.
 fn read_span(
+    span: SpanQuestion,
     answer: &[u8],
     start: usize,
-    tree: VersionTreeAt,
-    from: TimeKey,
-    to: TimeKey,
+    tree: TreeAt<TimeKey>,
     n: usize,
     constants: &[u32; 64],
-) -> Span
-    requires { (((start ≤ length answer.now) × (tree.0 + 48 ≤ length answer.now)) × (n ≤ path_limit)) × (constants.now ≡ K) }
-    ensures { (s : ℕ) → SpanIs answer.now (all_at (spanned s from.0 to.0) n answer.now start tree.0) result }
+) -> Result<Span, Refusal>
+    requires { (((start ≤ length answer.now) × (tree.at + 48 ≤ length answer.now)) × (n ≤ path_limit)) × (constants.now ≡ K) }
+    ensures { SpanIs answer.now (all_at (span_of span) n answer.now start tree.at) result }
 {
-    if !meets(answer, tree, from, to) {
-        return Span::Read {
+    if !meets(span, answer, tree) {
+        return Ok(Span {
             at: start,
             count: 0,
-        };
+        });
     }
-    match open_due(answer, start, tree, n, constants) {
-        Opening::Refused { number } => Span::Refused {
-            number: number,
-            position: start,
-        },
-        Opening::Leaf => {
-            let end = start + L_WIDTH;
-            Span::Read { at: end, count: 1 }
-        }
+    match open_due(answer, start, tree, n, constants)? {
+        Opening::Leaf => Ok(Span {
+            at: start + L_WIDTH,
+            count: 1,
+        }),
         Opening::Inner => {
-            let left = VersionTreeAt(start + BRANCH_LEFT);
-            let right = VersionTreeAt(start + BRANCH_RIGHT);
-            let behind = start + BRANCH_WIDTH;
-            match read_span(answer, behind, left, from, to, n - 1, constants) {
-                Span::Refused { number, position } => Span::Refused {
-                    number: number,
-                    position: position,
-                },
-                Span::Read { at: middle, count } => {
-                    counted_on(
-                        count,
-                        read_span(answer, middle, right, from, to, n - 1, constants),
-                    )
-                }
-            }
+            let left = TreeAt::<TimeKey>::new(start + BRANCH_LEFT);
+            let right = TreeAt::<TimeKey>::new(start + BRANCH_RIGHT);
+            let below = read_span(span, answer, start + BRANCH_WIDTH, left, n - 1, constants)?;
+            let behind = read_span(span, answer, below.at, right, n - 1, constants)?;
+            Ok(Span {
+                at: behind.at,
+                count: below.count + behind.count,
+            })
         }
     }
 }
 
 // ---- the walk to an entity
 
-// Where the walk in the tree of entities ends: without the entity sought, and before which byte, or at its string G. Or the row that it meets
-// and where.
+// Where the walk in the tree of entities ends: without the entity sought, and before which byte, or at its string G.
 #[derive(Clone, Copy)]
 enum EntitySearch {
     NoEntity { at: usize },
     Group { at: usize },
-    Refused { number: u64, position: usize },
 }
 
 // The walk in the tree of entities. Its depth has no bound, so it is a loop, and so is the one in an entity's tree.
@@ -352,31 +342,23 @@ fn walk_entities(
     entity: EntityKey,
     answer: &[u8],
     start: usize,
-    root: EntityTreeAt,
+    root: TreeAt<EntityKey>,
     constants: &[u32; 64],
-) -> EntitySearch
-    requires { ((start ≤ length answer.now) × (root.0 + 48 ≤ length answer.now)) × (constants.now ≡ K) }
-    ensures { SearchIs answer.now entity.0 (λ q. entities_at q answer.now start root.0) result }
+) -> Result<EntitySearch, Refusal>
+    requires { ((start ≤ length answer.now) × (root.at + 48 ≤ length answer.now)) × (constants.now ≡ K) }
+    ensures { SearchIs answer.now entity.0 (λ q. entities_at q answer.now start root.at) result }
 {
-    let mut next = start;
+    let mut at = start;
     let mut tree = root;
     loop {
         if outside(answer, tree, entity) {
-            return EntitySearch::NoEntity { at: next };
+            return Ok(EntitySearch::NoEntity { at });
         }
-        match open(answer, next, tree.0, LETTER_G, G_WIDTH, LETTER_P, constants) {
-            Opening::Refused { number } => {
-                return EntitySearch::Refused {
-                    number: number,
-                    position: next,
-                };
-            }
-            Opening::Leaf => {
-                return EntitySearch::Group { at: next };
-            }
+        match open(ENTITY_TREE, answer, at, tree.at, constants)? {
+            Opening::Leaf => return Ok(EntitySearch::Group { at }),
             Opening::Inner => {
-                tree = entity_side(answer, next, entity);
-                next += BRANCH_WIDTH;
+                tree = entity_side(answer, at, entity);
+                at += BRANCH_WIDTH;
             }
         }
     }
@@ -390,71 +372,52 @@ fn find_entity(
     answer: &[u8],
     at: usize,
     constants: &[u32; 64],
-) -> EntitySearch
+) -> Result<EntitySearch, Refusal>
     requires { ((length commitment.now ≡ digest_width) × (at ≤ length answer.now)) × (constants.now ≡ K) }
     ensures { SearchIs answer.now entity.0 (λ q. check_proof letter q commitment.now at (drop at answer.now)) result }
 {
-    match take_string(answer, at, letter, R_WIDTH, commitment, 0, constants) {
-        Taking::Refused { number } => EntitySearch::Refused {
-            number: number,
-            position: at,
-        },
-        Taking::Taken => {
-            let known = at + R_TREE;
-            walk_entities(entity, answer, at + R_WIDTH, EntityTreeAt(known), constants)
-        }
-    }
+    take_string(answer, at, letter, R_WIDTH, commitment, 0, constants)?;
+    let root = TreeAt::<EntityKey>::new(at + R_TREE);
+    walk_entities(entity, answer, at + R_WIDTH, root, constants)
 }
 
 // ---- the proof for one version
 
-// How a proof ends, and the byte behind its last string; `leaf` is where the string L stands. Or the row that it meets and where.
+// How a proof ends, and the byte behind its last string; `leaf` is where the string L stands.
 #[derive(Clone, Copy)]
 pub enum Proof {
     Stopped { stop: Stop, at: usize },
     Found { leaf: usize, at: usize },
-    Refused { number: u64, position: usize },
 }
 
 // The walk in one entity's tree.
 fn walk_versions(
-    relation: Relation,
+    question: Question,
     answer: &[u8],
     start: usize,
-    root: VersionTreeAt,
-    time: TimeKey,
+    root: TreeAt<TimeKey>,
     constants: &[u32; 64],
-) -> Proof
-    requires { ((start ≤ length answer.now) × (root.0 + 48 ≤ length answer.now)) × (constants.now ≡ K) }
-    ensures { ProofIs answer.now (versions_at (relation_of relation) time.0 answer.now start root.0) result }
+) -> Result<Proof, Refusal>
+    requires { ((start ≤ length answer.now) × (root.at + 48 ≤ length answer.now)) × (constants.now ≡ K) }
+    ensures { ProofIs answer.now (versions_at (relation_of question.relation) question.time.0 answer.now start root.at) result }
 {
-    let mut next = start;
+    let mut at = start;
     let mut tree = root;
     loop {
-        if unmet(relation, answer, tree, time) {
-            let stop = stop_at(relation, answer, tree);
-            return Proof::Stopped {
-                stop: stop,
-                at: next,
-            };
+        if unmet(question, answer, tree) {
+            let stop = stop_at(question.relation, answer, tree);
+            return Ok(Proof::Stopped { stop, at });
         }
-        match open(answer, next, tree.0, LETTER_L, L_WIDTH, LETTER_N, constants) {
-            Opening::Refused { number } => {
-                return Proof::Refused {
-                    number: number,
-                    position: next,
-                };
-            }
+        match open(VERSION_TREE, answer, at, tree.at, constants)? {
             Opening::Leaf => {
-                let end = next + L_WIDTH;
-                return Proof::Found {
-                    leaf: next,
-                    at: end,
-                };
+                return Ok(Proof::Found {
+                    leaf: at,
+                    at: at + L_WIDTH,
+                });
             }
             Opening::Inner => {
-                tree = version_side(relation, answer, next, time);
-                next += BRANCH_WIDTH;
+                tree = version_side(question, answer, at);
+                at += BRANCH_WIDTH;
             }
         }
     }
@@ -468,30 +431,18 @@ pub fn check_proof(
     answer: &[u8],
     at: usize,
     constants: &[u32; 64],
-) -> Proof
+) -> Result<Proof, Refusal>
     requires { ((length commitment.now ≡ digest_width) × (at ≤ length answer.now)) × (constants.now ≡ K) }
     ensures { ProofIs answer.now (check_proof letter (one (question_of question)) commitment.now at (drop at answer.now)) result }
 {
-    let relation = question.relation;
-    match find_entity(letter, question.entity, commitment, answer, at, constants) {
-        EntitySearch::Refused { number, position } => Proof::Refused {
-            number: number,
-            position: position,
-        },
-        EntitySearch::NoEntity { at: end } => Proof::Stopped {
+    match find_entity(letter, question.entity, commitment, answer, at, constants)? {
+        EntitySearch::NoEntity { at: end } => Ok(Proof::Stopped {
             stop: Stop::NoEntity,
             at: end,
-        },
+        }),
         EntitySearch::Group { at: group } => {
-            let known = group + G_VERSIONS;
-            walk_versions(
-                relation,
-                answer,
-                group + G_WIDTH,
-                VersionTreeAt(known),
-                question.time,
-                constants,
-            )
+            let root = TreeAt::<TimeKey>::new(group + G_VERSIONS);
+            walk_versions(question, answer, group + G_WIDTH, root, constants)
         }
     }
 }
@@ -499,7 +450,7 @@ pub fn check_proof(
 // ---- the proof for all versions between two times
 
 // How such a proof ends: without the entity, and before which byte, or with the number of its versions that were opened and the bytes, from
-// `start` to `end`, of their strings and those above them. Or the row that it meets and where.
+// `start` to `end`, of their strings and those above them.
 #[derive(Clone, Copy)]
 pub enum ListProof {
     NoEntity {
@@ -510,10 +461,6 @@ pub enum ListProof {
         end: usize,
         count: usize,
     },
-    Refused {
-        number: u64,
-        position: usize,
-    },
 }
 
 // The most N that a path in an entity's tree has.
@@ -521,28 +468,22 @@ const PATH_LIMIT: usize = 16;
 
 // All strings behind the string G at a place that the two times open.
 fn list_group(
+    span: SpanQuestion,
     answer: &[u8],
     group: usize,
-    from: TimeKey,
-    to: TimeKey,
     constants: &[u32; 64],
-) -> ListProof
+) -> Result<ListProof, Refusal>
     requires { (group + G_width ≤ length answer.now) × (constants.now ≡ K) }
-    ensures { (s : ℕ) → ListIs answer.now (sought_at (all (spanned s from.0 to.0)) answer.now (group + G_width) (group + 9)) result }
+    ensures { ListIs answer.now (sought_at (all (span_of span)) answer.now (group + G_width) (group + 9)) result }
 {
     let start = group + G_WIDTH;
-    let tree = VersionTreeAt(group + G_VERSIONS);
-    match read_span(answer, start, tree, from, to, PATH_LIMIT, constants) {
-        Span::Refused { number, position } => ListProof::Refused {
-            number: number,
-            position: position,
-        },
-        Span::Read { at, count } => ListProof::Listed {
-            start: start,
-            end: at,
-            count: count,
-        },
-    }
+    let tree = TreeAt::<TimeKey>::new(group + G_VERSIONS);
+    let read = read_span(span, answer, start, tree, PATH_LIMIT, constants)?;
+    Ok(ListProof::Listed {
+        start,
+        end: read.at,
+        count: read.count,
+    })
 }
 
 // The proof at a place of the answer, under a root's letter and a commitment: the walk to the entity, and all strings of its tree that the two
@@ -554,19 +495,13 @@ pub fn check_list(
     answer: &[u8],
     at: usize,
     constants: &[u32; 64],
-) -> ListProof
+) -> Result<ListProof, Refusal>
     requires { ((length commitment.now ≡ digest_width) × (at ≤ length answer.now)) × (constants.now ≡ K) }
     ensures { ListIs answer.now (check_proof letter (all (span_of span)) commitment.now at (drop at answer.now)) result }
 {
-    match find_entity(letter, span.entity, commitment, answer, at, constants) {
-        EntitySearch::Refused { number, position } => ListProof::Refused {
-            number: number,
-            position: position,
-        },
-        EntitySearch::NoEntity { at: end } => ListProof::NoEntity { at: end },
-        EntitySearch::Group { at: group } => {
-            list_group(answer, group, span.from, span.to, constants)
-        }
+    match find_entity(letter, span.entity, commitment, answer, at, constants)? {
+        EntitySearch::NoEntity { at: end } => Ok(ListProof::NoEntity { at: end }),
+        EntitySearch::Group { at: group } => list_group(span, answer, group, constants),
     }
 }
 
@@ -576,8 +511,7 @@ pub fn leaf_entity(answer: &[u8], leaf: usize) -> EntityKey
     requires { leaf + L_width ≤ length answer.now }
     ensures { result.0 ≡ (leaf_in (take L_width (drop leaf answer.now))).entity }
 {
-    let n = fields::get_u32(answer, leaf + L_ENTITY);
-    EntityKey(n as u64)
+    question::entity_at(answer, leaf + L_ENTITY)
 }
 
 pub fn leaf_time(answer: &[u8], leaf: usize) -> TimeKey
@@ -606,6 +540,7 @@ pub fn put_list(answer: &[u8], start: usize, end: usize, out: &mut [u8])
 {
     let mut next = start;
     let mut at: usize = 0;
+    // No count is known: the letters say how wide the strings are.
     while next < end {
         if answer[next] == LETTER_L {
             put_name(answer, next, out, at);

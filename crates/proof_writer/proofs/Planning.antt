@@ -28,14 +28,14 @@ use Rattle.kept_trees.specs.Kept.{KeptTree, TreesKept}
 use Rattle.kept_trees.proofs.Graphs.{versions_are, versions-number}
 use Rattle.question.specs.declared.SpanQuestion.{SpanQuestion as Declared}
 use Rattle.question.specs.declared.Question.{Question as DeclaredOne}
-use Rattle.question.specs.Directions.{question_of, span_of}
-use Rattle.proof_writer.specs.declared.Query.{Query}
-use Rattle.proof_writer.specs.declared.Query.TheVariants.{One, All}
+use Rattle.question.specs.Directions.{question_of, span_of, query_of}
+use Rattle.question.specs.declared.Query.{Query}
+use Rattle.question.specs.declared.Query.TheVariants.{One, All}
 use Rattle.proof_writer.specs.declared.Way.{Way}
 use Rattle.proof_writer.specs.declared.EntityPath.{EntityPath}
 use Rattle.proof_writer.specs.declared.Planned.{Planned}
 use Rattle.proof_writer.specs.declared.Planned.TheVariants.{NoEntity, Unmet, Found, Listed}
-use Rattle.proof_writer.specs.Walks.{query_of, onto, StoppedAt, ReachedAt}
+use Rattle.proof_writer.specs.Walks.{onto, StoppedAt, ReachedAt}
 use Rattle.proof_writer.specs.Spans.{span_strings}
 use Rattle.proof_writer.specs.Plans.{listed_strings, reached_entity, entity_path, entity_string, version_path, strings_of, path_of, EndIs, PathIs, WayIs, RestIs, PlanIs, HasTrees, HasList, Reaches}
 

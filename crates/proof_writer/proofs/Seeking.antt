@@ -40,13 +40,6 @@ use Rattle.proof_writer.proofs.Descents.{Way, way-none, way-stopped, way-leaf, w
 
 -- ---- the keys of a tree
 
-pub not_below : (a b : ℕ) → not (ltb a b) ≡ leb b a
-not_below a b = go (le_or_lt b a)
-  where
-    go : (b ≤ a) ⊎ (a < b) → not (ltb a b) ≡ leb b a
-    go (inl h) = ap not (le-ltb a b h) ∙ sym (le-leb b a h)
-    go (inr h) = ap not (lt-ltb a b h) ∙ sym (lt-leb b a h)
-
 not_above : (a b : ℕ) → ltb a b ≡ not (leb b a)
 not_above a b = go (le_or_lt b a)
   where
@@ -95,10 +88,10 @@ module _ (m : Bytes) (r : Ranks) where
   -- ---- whether it goes left
 
   module _ (s : Stretch) (k : ℕ) (low : 0 < k) (high : k < s.n) where
-    pub entity-left : (x j : ℕ) (b : Bool) → j ≡ entity_at m r (s.from + (k - 1)) → b ≡ ltb j x
-        → not b ≡ (by_entity x).goes_left (tree_of (entities_row m r) s.from k) (tree_of (entities_row m r) (s.from + k) (s.n - k))
+    pub entity-left : (x j : ℕ) (b : Bool) → j ≡ entity_at m r (s.from + (k - 1)) → b ≡ leb x j
+        → b ≡ (by_entity x).goes_left (tree_of (entities_row m r) s.from k) (tree_of (entities_row m r) (s.from + k) (s.n - k))
     unfolding by_entity
-    entity-left x j b e u = ap not u ∙ not_below j x ∙ ap (leb x) (last-entity s.from k j low e)
+    entity-left x j b e u = u ∙ ap (leb x) (last-entity s.from k j low e)
 
     module _ (q : Declared) (t : ℕ) where
       abbrev goes : Declared → Bool
@@ -108,9 +101,9 @@ module _ (m : Bytes) (r : Ranks) where
       unfolding by_time relation_of
       left_back j b z e u = u ∙ not_above t j ∙ ap (λ (y : ℕ). not (leb y t)) (first-time (s.from + k) (s.n - k) j (omega arith) e) ∙ ap goes (sym z)
 
-      pub left_ahead : (j : ℕ) (b : Bool) → q ≡ AtOrAfter → j ≡ time_in m (slot_at m (s.from + (k - 1))) → b ≡ ltb j t → not b ≡ goes q
+      pub left_ahead : (j : ℕ) (b : Bool) → q ≡ AtOrAfter → j ≡ time_in m (slot_at m (s.from + (k - 1))) → b ≡ leb t j → b ≡ goes q
       unfolding by_time relation_of
-      left_ahead j b z e u = ap not u ∙ not_below j t ∙ ap (leb t) (last_time s.from k j low e) ∙ ap goes (sym z)
+      left_ahead j b z e u = u ∙ ap (leb t) (last_time s.from k j low e) ∙ ap goes (sym z)
 
 -- ---- by the descent
 

@@ -31,7 +31,7 @@ use Rattle.kept_trees.proofs.Graphs.{versions-stretch}
 use Rattle.proof_writer.specs.declared.Stretch.{Stretch}
 use Rattle.proof_writer.specs.Spans.{versions_in, span_strings}
 use Rattle.accumulator.proofs.Strings.{digest_32}
-use Rattle.proof_writer.proofs.Seeking.{not_below, first-time, last_time}
+use Rattle.proof_writer.proofs.Seeking.{first-time, last_time}
 use Rattle.proof_writer.proofs.Writing.{version_77}
 
 -- ---- whether a tree meets the span
@@ -44,22 +44,14 @@ module _ (m : Bytes) (r : Ranks) (s : Stretch) (p : SpanQuestion) (some : 0 < s.
       let l = ltb-true p.to k (sym t ∙ h) in
       ap (λ (c : Bool). c && leb p.from (tree_of (versions_row m) s.from s.n).greatest) (sym (lt-leb (tree_of (versions_row m) s.from s.n).least p.to (omega arith)))
 
-  pub meets_by : (k j : ℕ) (b c : Bool) → k ≡ time_in m (slot_at m s.from) → b ≡ ltb p.to k → b ≡ false → j ≡ time_in m (slot_at m (s.from + (s.n - 1))) → c ≡ ltb j p.from
-      → not c ≡ within p (tree_of (versions_row m) s.from s.n)
+  pub meets_by : (k j : ℕ) (b c : Bool) → k ≡ time_in m (slot_at m s.from) → b ≡ ltb p.to k → b ≡ false → j ≡ time_in m (slot_at m (s.from + (s.n - 1))) → c ≡ leb p.from j
+      → c ≡ within p (tree_of (versions_row m) s.from s.n)
   unfolding within
   meets_by k j b c e t h f u =
       let x = first-time m r s.from s.n k some e in
       let l = ltb-false p.to k (sym t ∙ h) in
-      ap not u ∙ not_below j p.from ∙ ap (leb p.from) (last_time m r s.from s.n j some f)
+      u ∙ ap (leb p.from) (last_time m r s.from s.n j some f)
       ∙ ap (λ (d : Bool). d && leb p.from (tree_of (versions_row m) s.from s.n).greatest) (sym (le-leb (tree_of (versions_row m) s.from s.n).least p.to (omega arith)))
-
-pub not_true : (b : Bool) → not b ≡ true → b ≡ false
-not_true true h = sym h
-not_true false h = refl
-
-pub not_false : (b : Bool) → not b ≡ false → b ≡ true
-not_false true h = refl
-not_false false h = sym h
 
 -- ---- the tree of ranked versions by halves
 

@@ -4,25 +4,17 @@ use Rattle.model.specs.Numbers.{Bytes, joined}
 use Rattle.model.specs.Accumulator.{Subtree as Known, tip, Layout, subtree, tree, largest_power_below, VersionLeaf, versions_layout, no_leaf, Group, entities_layout, no_group}
 use Rattle.model.specs.Question as model
 use Rattle.model.specs.Question.{SearchEnd, by_entity, by_time, Opened, stop, after, open_tree}
-use Rattle.question.specs.Directions.{relation_of, question_of, span_of}
+use Rattle.question.specs.Directions.{relation_of}
 use Rattle.accumulator.specs.Halves.{own, path_to}
 use Rattle.kept_trees.specs.declared.Row.{Row}
 use Rattle.kept_trees.specs.declared.Row.TheVariants.{Versions, Entities}
 use Rattle.ranks.specs.declared.Ranks.{Ranks}
 use Rattle.kept_trees.specs.Leaves.{size_of}
-use Rattle.proof_writer.specs.declared.Query.{Query}
-use Rattle.proof_writer.specs.declared.Query.TheVariants.{One, All}
 use Rattle.proof_writer.specs.declared.Stretch.{Stretch}
 use Rattle.proof_writer.specs.declared.Descent.{Descent}
 use Rattle.proof_writer.specs.declared.Descent.TheVariants.{ByEntity, ByTime}
 use Rattle.proof_writer.specs.declared.Sought.{Sought}
 use Rattle.proof_writer.specs.declared.Sought.TheVariants.{Stopped, Reached}
-
--- ---- what is asked
-
-abbrev pub query_of : Query → model.Question
-query_of (One q) = model.one (question_of q)
-query_of (All s) = model.all (span_of s)
 
 -- ---- descents
 

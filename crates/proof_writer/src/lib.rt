@@ -10,7 +10,7 @@ ghost use Rattle.model.specs.Accumulator.{letter_N, L_width, branch_width, R_wid
 ghost use Rattle.model.specs.Question as model;
 ghost use Rattle.model.specs.Question.{by_entity, by_time, within, Opened};
 ghost use Rattle.model.specs.Answer.{proof};
-ghost use Rattle.question.specs.Directions.{relation_of, question_of, span_of};
+ghost use Rattle.question.specs.Directions.{relation_of, question_of, span_of, query_of};
 ghost use Rattle.graph.specs.Table.{columns, Kept};
 ghost use Rattle.accumulator.specs.Trees.{header_of};
 ghost use Rattle.accumulator.specs.Halves.{own};
@@ -18,7 +18,7 @@ ghost use Rattle.trees.specs.Tables.{Graphed, HasGraph, version_at};
 ghost use Rattle.ranks.specs.Ranked.{first_in, count_in, Ranked, RankedAs};
 ghost use Rattle.kept_trees.specs.declared.Row.TheVariants.{Versions, Entities};
 ghost use Rattle.kept_trees.specs.Leaves.{stretch, tree_of, versions_row, entities_row, row_leaves, size_of};
-ghost use Rattle.proof_writer.specs.Walks.{query_of, descent_of, row_of, LeafOf, layout_of, none_of, Among, half_of, SoughtIs, Leads};
+ghost use Rattle.proof_writer.specs.Walks.{descent_of, row_of, LeafOf, layout_of, none_of, Among, half_of, SoughtIs, Leads};
 ghost use Rattle.kept_trees.specs.Kept.{KeptTree};
 ghost use Rattle.proof_writer.specs.Spans.{span_strings, SpanFits};
 ghost use Rattle.proof_writer.specs.Plans.{reached_entity, entity_string, version_path, front_bytes, entity_bytes, walk_bytes, list_bytes, length_of, PathIs, WayIs, PlanIs, Plan, HasPlan, HasTrees, HasPath, HasWay, HasList, Reaches};
@@ -26,7 +26,7 @@ ghost use Rattle.proof_writer.specs.Plans.{reached_entity, entity_string, versio
 use accumulator::{EntityTree, Header};
 use kept_trees::Row;
 use model::LETTER_N;
-use question::{EntityKey, Question, Relation, SpanQuestion, TimeKey};
+use question::{EntityKey, Query, Question, Relation, SpanQuestion, TimeKey};
 use ranks::Ranks;
 use strings::{BRANCH_WIDTH, G_WIDTH, L_WIDTH, R_WIDTH};
 
@@ -44,10 +44,10 @@ fn outside(work: &[u8], ranks: Ranks, leaves: Stretch, entity: EntityKey) -> boo
     requires { Ranked work.now ranks × Among Entities ranks leaves }
     ensures { result ≡ (by_entity entity.0).stops (tree_of (entities_row work.now ranks) leaves.from leaves.n) }
 {
-    if entity.below(ranks::entity_at(work, ranks, leaves.from)) {
+    if entity < ranks::entity_at(work, ranks, leaves.from) {
         return true;
     }
-    ranks::entity_at(work, ranks, leaves.from + (leaves.n - 1)).below(entity)
+    ranks::entity_at(work, ranks, leaves.from + (leaves.n - 1)) < entity
 }
 
 // Whether no version of a tree meets a time: all are after it, or all before.
@@ -56,10 +56,8 @@ fn unmet(work: &[u8], ranks: Ranks, leaves: Stretch, relation: Relation, time: T
     ensures { result ≡ (by_time (relation_of relation) time.0).stops (tree_of (versions_row work.now) leaves.from leaves.n) }
 {
     match relation {
-        Relation::AtOrBefore => time.below(ranks::time_at(work, ranks, leaves.from)),
-        Relation::AtOrAfter => {
-            ranks::time_at(work, ranks, leaves.from + (leaves.n - 1)).below(time)
-        }
+        Relation::AtOrBefore => time < ranks::time_at(work, ranks, leaves.from),
+        Relation::AtOrAfter => { ranks::time_at(work, ranks, leaves.from + (leaves.n - 1)) < time }
     }
 }
 
@@ -93,8 +91,8 @@ fn version_left(
     ensures { result ≡ (by_time (relation_of relation) time.0).goes_left (tree_of (versions_row work.now) leaves.from k) (tree_of (versions_row work.now) (leaves.from + k) (leaves.n - k)) }
 {
     match relation {
-        Relation::AtOrBefore => time.below(ranks::time_at(work, ranks, leaves.from + k)),
-        Relation::AtOrAfter => { !ranks::time_at(work, ranks, leaves.from + (k - 1)).below(time) }
+        Relation::AtOrBefore => time < ranks::time_at(work, ranks, leaves.from + k),
+        Relation::AtOrAfter => time <= ranks::time_at(work, ranks, leaves.from + (k - 1)),
     }
 }
 
@@ -103,9 +101,8 @@ fn goes_left(descent: Descent, work: &[u8], ranks: Ranks, leaves: Stretch, k: us
     ensures { result ≡ (descent_of descent).goes_left (tree_of (row_leaves (row_of descent) work.now ranks) leaves.from k) (tree_of (row_leaves (row_of descent) work.now ranks) (leaves.from + k) (leaves.n - k)) }
 {
     match descent {
-        Descent::ByEntity { entity } => {
-            !ranks::entity_at(work, ranks, leaves.from + (k - 1)).below(entity)
-        }
+        Descent::ByEntity { entity } => entity
+            <= ranks::entity_at(work, ranks, leaves.from + (k - 1)),
         Descent::ByTime { relation, time } => {
             version_left(work, ranks, leaves, k, relation, time)
         }
@@ -143,19 +140,20 @@ fn seek(descent: Descent, work: &[u8], ranks: Ranks, from: usize, n: usize) -> S
     ensures leads { Leads n result }
     ensures walk { (xs : List (LeafOf (row_of descent))) → stretch (row_leaves (row_of descent) work.now ranks) from n ≡ own (layout_of (row_of descent)) xs → (inside : LeafOf (row_of descent) → Opened) → SoughtIs (layout_of (row_of descent)) (descent_of descent) inside (none_of (row_of descent)) xs result }
 {
-    let mut leaves = Stretch { from: from, n: n };
+    let mut leaves = Stretch { from, n };
     let mut depth: usize = 0;
+    // No count is known: the walk ends where a leaf is met, or none can be.
     loop {
         if stops(descent, work, ranks, leaves) {
             return Sought::Stopped {
                 target: leaves.from - from,
-                depth: depth,
+                depth,
             };
         }
         if leaves.n <= 1 {
             return Sought::Reached {
                 target: leaves.from - from,
-                depth: depth,
+                depth,
             };
         }
         leaves = half(descent, work, ranks, leaves);
@@ -172,10 +170,10 @@ fn meets(work: &[u8], ranks: Ranks, leaves: Stretch, span: SpanQuestion) -> bool
 {
     let from = span.from;
     let to = span.to;
-    if to.below(ranks::time_at(work, ranks, leaves.from)) {
+    if to < ranks::time_at(work, ranks, leaves.from) {
         return false;
     }
-    !ranks::time_at(work, ranks, leaves.from + (leaves.n - 1)).below(from)
+    from <= ranks::time_at(work, ranks, leaves.from + (leaves.n - 1))
 }
 
 // The length of the strings that a span opens of a tree of versions.
@@ -337,7 +335,7 @@ fn reached_versions(work: &[u8], path: EntityPath) -> Stretch
     let ranks = path.ranks;
     let from = ranks::first_at(work, ranks, path.target);
     let n = ranks::count_at(work, ranks, path.target);
-    Stretch { from: from, n: n }
+    Stretch { from, n }
 }
 
 // The plan from the entity's leaf on.
@@ -350,26 +348,17 @@ fn plan_versions(work: &[u8], n: usize, path: EntityPath, question: Question) ->
     let length = R_G_WIDTH + BRANCH_WIDTH * path.depth;
     let relation = question.relation;
     let time = question.time;
-    let descent = Descent::ByTime {
-        relation: relation,
-        time: time,
-    };
+    let descent = Descent::ByTime { relation, time };
     match seek(descent, work, ranks, leaves.from, leaves.n) {
         Sought::Stopped { target, depth } => Planned::Unmet {
             length: length + BRANCH_WIDTH * depth,
-            path: path,
-            way: Way {
-                target: target,
-                depth: depth,
-            },
+            path,
+            way: Way { target, depth },
         },
         Sought::Reached { target, depth } => Planned::Found {
             length: length + (BRANCH_WIDTH * depth + L_WIDTH),
-            path: path,
-            way: Way {
-                target: target,
-                depth: depth,
-            },
+            path,
+            way: Way { target, depth },
             slot: ranks::slot_at(work, leaves.from + target),
         },
     }
@@ -385,16 +374,9 @@ fn plan_span(work: &[u8], n: usize, path: EntityPath, span: SpanQuestion) -> Pla
     let length = R_G_WIDTH + BRANCH_WIDTH * path.depth;
     Planned::Listed {
         length: length + span_length(work, ranks, leaves, span),
-        path: path,
-        span: span,
+        path,
+        span,
     }
-}
-
-// What is asked for: one version of an entity, or all between two times.
-#[derive(Clone, Copy)]
-pub enum Query {
-    One { question: Question },
-    All { span: SpanQuestion },
 }
 
 fn entity_of(query: Query) -> EntityKey
@@ -422,21 +404,21 @@ fn plan_entity(work: &[u8], n: usize, ranks: Ranks, query: Query) -> Planned
     ensures { (ns : List VersionNode) → Graphed work.now n ns → RankedAs work.now ns ranks → PlanIs work.now ns (query_of query) result }
 {
     let entity = entity_of(query);
-    let descent = Descent::ByEntity { entity: entity };
+    let descent = Descent::ByEntity { entity };
     match seek(descent, work, ranks, 0, ranks.entities) {
         Sought::Stopped { target, depth } => Planned::NoEntity {
             length: R_WIDTH + BRANCH_WIDTH * depth,
             path: EntityPath {
-                ranks: ranks,
-                target: target,
-                depth: depth,
+                ranks,
+                target,
+                depth,
             },
         },
         Sought::Reached { target, depth } => {
             let path = EntityPath {
-                ranks: ranks,
-                target: target,
-                depth: depth,
+                ranks,
+                target,
+                depth,
             };
             plan_below(work, n, path, query)
         }

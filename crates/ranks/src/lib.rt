@@ -78,6 +78,7 @@ fn rank_versions(work: &mut [u8], entry: usize, n: usize, from: usize) -> usize
 {
     let mut rank = from;
     let mut i = entry;
+    // No count is known: the links say where the versions end.
     while i < NO_SLOT {
         put(work, RANKED_COLUMN, rank, i);
         rank += 1;
@@ -95,14 +96,12 @@ pub fn rank_all(work: &mut [u8], n: usize) -> Ranks
     let mut entities: usize = 0;
     let mut versions: usize = 0;
     let mut i = trees::next_entry(work, 0, n);
+    // No count is known: the next entity is searched for.
     while i < n {
         put(work, FIRST_COLUMN, entities, versions);
         entities += 1;
         versions = rank_versions(work, i, n, versions);
         i = trees::next_entry(work, i + 1, n);
     }
-    Ranks {
-        entities: entities,
-        versions: versions,
-    }
+    Ranks { entities, versions }
 }

@@ -30,22 +30,6 @@ same_test false false f g = refl
 shift : (x b : ℕ) → x * 2 ^ b < 2 ^ 64 → (x * 2 ^ b) % 2 ^ 64 ≡ x * 2 ^ b
 shift x b h = mod-eq_of_lt h
 
-pub shifted_one : (b : ℕ) → b ≤ 17 → (1 * 2 ^ b) % 2 ^ 64 ≡ 2 ^ b
-shifted_one b h = let k = two_high b h in mod-eq_of_lt (omega arith) ∙ omega arith
-
-pub rounded_up_is : (y b u : ℕ) → u ≡ 2 ^ b → RoundedUp y b ((y + (u - 1)) / 2 ^ b)
-rounded_up_is y b u e =
-    let w = 2 ^ b in
-    let l : 1 ≤ w = two_low b in
-    let c = (y + (u - 1)) / w in
-    let d : c * w + (y + (u - 1)) % w ≡ y + (u - 1) = div-add-mod' (y + (u - 1)) w in
-    let m : (y + (u - 1)) % w < w = mod-lt (y + (u - 1)) l in
-    record {
-      enough = omega arith;
-      least = omega arith;
-      small = not_above c y (λ (h : y < c). omega (arith, mul-le-mul_right w h, mul-le-mul_left y l));
-    }
-
 -- ---- the exact test
 
 -- n w^3 by what n has above a^3
@@ -123,12 +107,6 @@ some_digit n a b x k h =
     let low : a * a * a ≤ n = omega (arith, cube_is a, k.root.low) in
     let h' : n * (w * w * w) < (a * w + 0) * (a * w + 0) * (a * w + 0) = rw e at h in
     omega (arith, mul-le-mul_right (w * w * w) low, h'))
-
-pub one_less : (n a b x : ℕ) → Digits n a b x → n * (2 ^ b * 2 ^ b * 2 ^ b) < (a * 2 ^ b + x) * (a * 2 ^ b + x) * (a * 2 ^ b + x) → Digits n a b (x - 1)
-one_less n a b x d h =
-    let p : 1 ≤ x = some_digit n a b x d.known h in
-    let e : x - 1 + 1 ≡ x = omega arith in
-    record { known = d.known; bound = omega (arith, d.bound); high = rw e h }
 
 pub refined_is : (n a b x : ℕ) → Digits n a b x → (a * 2 ^ b + x) * (a * 2 ^ b + x) * (a * 2 ^ b + x) ≤ n * (2 ^ b * 2 ^ b * 2 ^ b)
     → Greatest 3 (n * (2 ^ b * 2 ^ b * 2 ^ b)) (a * 2 ^ b + x)

@@ -102,9 +102,6 @@ pub next_six : (k marks : List ℕ) (p a i q c : ℕ) → Filled k marks p a i �
 next_six k marks p a i q c f h n g =
     record { low = omega (arith, n.low, f.low); high = next-there k marks p a i q f h n; root = g }
 
-pub still_low : (k marks : List ℕ) (p a i q : ℕ) → Filled k marks p a i → NextUnmarked (p + 1) marks q → a * a * a ≤ q * 262144
-still_low k marks p a i q f n = omega (arith, n.low, f.root)
-
 map_snoc : (f : ℕ → ℕ) (l : List ℕ) (x : ℕ) → map f (l ++ (x ∷ [])) ≡ map f l ++ (f x ∷ [])
 map_snoc f [] x = refl
 map_snoc f (y ∷ l) x = ap (λ (r : List ℕ). f y ∷ r) (map_snoc f l x)

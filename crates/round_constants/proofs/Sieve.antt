@@ -127,12 +127,6 @@ seeking_more from marks n s h z =
       high = omega arith;
     }
 
-pub next-found : (from : ℕ) (marks : List ℕ) (n : ℕ) → Seeking from marks n → n < 312 → get_or marks n 0 ≡ 0 → NextUnmarked from marks n
-next-found from marks n s h z = record { sieved = s.sieved; same = s.same; low = s.low; high = s.high; here = λ _. z }
-
-pub next-none : (from : ℕ) (marks : List ℕ) (n : ℕ) → Seeking from marks n → 312 ≤ n → NextUnmarked from marks n
-next-none from marks n s h = record { sieved = s.sieved; same = s.same; low = s.low; high = s.high; here = λ l. absurd (let z : ⊥ = omega arith in z) }
-
 -- ---- marking the multiples
 
 between : (p m j : ℕ) → m % p ≡ 0 → j % p ≡ 0 → m < j → j < m + p → ⊥
@@ -150,45 +144,3 @@ pub record Striking (p : ℕ) (marks₀ marks : List ℕ) (m : ℕ) : Type 0 whe
   pub low : p < m
   pub hit : (j : ℕ) → p < j → j < m → j < 312 → j % p ≡ 0 → get_or marks j 0 ≡ 1
   pub kept : (j : ℕ) → (j % p ≡ 0 → ⊥) → get_or marks j 0 ≡ get_or marks₀ j 0
-
-pub striking_none : (p : ℕ) (marks : List ℕ) → length marks ≡ 312 → 1 ≤ p → p < 312 → Striking p marks marks (p + p)
-striking_none p marks e h k =
-    record {
-      size = e;
-      multiple = ap (λ (x : ℕ). x % p) (let z : p + p ≡ 2 * p = omega arith in z) ∙ mul-mod_left 2 p;
-      pos = h;
-      small = k;
-      low = omega arith;
-      hit = λ j l u i d. absurd (between p p j (mod_self p) d l u);
-      kept = λ j n. refl;
-    }
-
-pub striking_more : (p : ℕ) (marks₀ marks : List ℕ) (m : ℕ) → Striking p marks₀ marks m → m < 312 → Striking p marks₀ (set marks m 1) (m + p)
-striking_more p marks₀ marks m s h =
-    record {
-      size = length-set marks m 1 ∙ s.size;
-      multiple = ap (λ (x : ℕ). x % p) (let z : m + p ≡ m + 1 * p = omega arith in z) ∙ add-mul-mod_self_right m 1 p ∙ s.multiple;
-      pos = s.pos;
-      small = s.small;
-      low = omega (arith, s.low);
-      hit = λ j l u i d. hit-more j l u i d;
-      kept = λ j n. get_or-set_other marks m j 1 0 (λ e. n (ap (λ (x : ℕ). x % p) e ∙ s.multiple)) ∙ s.kept j n;
-    }
-  where
-    here : (j : ℕ) → j ≡ m → get_or (set marks m 1) j 0 ≡ 1
-    here j e = rw e (get_or-set_same marks m 1 0 (omega (arith, s.size)))
-
-    hit-more : (j : ℕ) → p < j → j < m + p → j < 312 → j % p ≡ 0 → get_or (set marks m 1) j 0 ≡ 1
-    hit-more j l u i d =
-        ⊎_elim
-        (λ (e : j - m ≡ 0).
-        ⊎_elim
-        (λ (f : m - j ≡ 0). here j (omega arith))
-        (λ (f : 0 < m - j). get_or-set_other marks m j 1 0 (λ e. omega arith) ∙ s.hit j l (omega arith) i d)
-        (eq-zero-or-pos (m - j)))
-        (λ (e : 0 < j - m). absurd (between p m j s.multiple d (omega arith) u))
-        (eq-zero-or-pos (j - m))
-
-pub striking_all : (p : ℕ) (marks₀ marks : List ℕ) (m : ℕ) → Striking p marks₀ marks m → 312 ≤ m → Struck p marks₀ marks
-striking_all p marks₀ marks m s h =
-    record { size = s.size; hit = λ j l i d. s.hit j l (omega arith) i d; kept = s.kept }

@@ -60,6 +60,7 @@ fn refined_root(n: u64, a: u64, b: u32) -> u64
     ensures { Greatest 3 (n * (2 ^ b * 2 ^ b * 2 ^ b)) result }
 {
     let mut x = remainder(n, a, b) / (3 * a * a);
+    // No count is known: the root itself is sought.
     while cube_exceeds(n, a, b, x) {
         x -= 1;
     }
@@ -72,6 +73,7 @@ fn raised_root(a: u64, n: u64) -> u64
     ensures { (Greatest 3 n result) × (a ≤ result) }
 {
     let mut r = a;
+    // No count is known: the root itself is sought.
     while cube(r + 1) <= n {
         r += 1;
     }
@@ -95,10 +97,8 @@ fn strike_multiples(marks: &mut [u8; 312], p: usize)
     requires { (length marks.old ≡ 312) × ((1 ≤ p) × (p < 312)) }
     ensures { Struck p marks.old marks.new }
 {
-    let mut m = p + p;
-    while m < LIMIT {
+    for m in (p + p..LIMIT).step_by(p) {
         marks[m] = 1;
-        m += p;
     }
 }
 
@@ -107,14 +107,12 @@ fn next_prime(marks: &[u8; 312], from: usize) -> usize
     requires { (Sieved from marks.now) × ((2 ≤ from) × (from ≤ 312)) }
     ensures { NextUnmarked from marks.now result }
 {
-    let mut n = from;
-    while n < LIMIT {
+    for n in from..LIMIT {
         if marks[n] == 0 {
             return n;
         }
-        n += 1;
     }
-    n
+    LIMIT
 }
 
 // ---- the constants
@@ -127,8 +125,7 @@ pub fn work_out() -> [u32; 64]
     let mut marks = [0u8; LIMIT];
     let mut p: usize = 1;
     let mut a: u64 = 0;
-    let mut i: usize = 0;
-    while i < 64 {
+    for i in 0..64 {
         let q = next_prime(&marks, p + 1);
         strike_multiples(&mut marks, q);
         let n = q as u64;
@@ -136,7 +133,6 @@ pub fn work_out() -> [u32; 64]
         k[i] = fraction(n, c);
         p = q;
         a = c;
-        i += 1;
     }
     k
 }

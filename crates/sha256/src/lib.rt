@@ -7,37 +7,30 @@ ghost use Rattle.round_constants.specs.Constants.{K};
 ghost use Rattle.sha256.specs.Sha256.{◌⊞◌, Ch, Maj, Σ0, Σ1, σ0, σ1, H0, words, extended, T1, T2, round, rounds, sums, compress, hashed, bytes, sha256};
 ghost use Rattle.sha256.specs.State.{Scheduled, ending, Held, Absorbed};
 
-use std::num::{wrapping_add_u32, wrapping_add_u64};
-
 // The four sigmas, with rotations nested in each other: fewer values are held at a time. A round waits for Σ1 longest, so two of its
 // rotations stand side by side.
 fn big_sigma0(x: u32) -> u32
     ensures { result ≡ Σ0 x }
 {
-    let y = x ^ ((x >> 9) | (x << 23));
-    let z = x ^ ((y >> 11) | (y << 21));
-    (z >> 2) | (z << 30)
+    (x ^ (x ^ x.rotate_right(9)).rotate_right(11)).rotate_right(2)
 }
 
 fn big_sigma1(x: u32) -> u32
     ensures { result ≡ Σ1 x }
 {
-    let y = x ^ ((x >> 14) | (x << 18));
-    ((x >> 6) | (x << 26)) ^ ((y >> 11) | (y << 21))
+    x.rotate_right(6) ^ (x ^ x.rotate_right(14)).rotate_right(11)
 }
 
 pub fn small_sigma0(x: u32) -> u32
     ensures { result ≡ σ0 x }
 {
-    let y = x ^ ((x >> 11) | (x << 21));
-    ((y >> 7) | (y << 25)) ^ (x >> 3)
+    (x ^ x.rotate_right(11)).rotate_right(7) ^ (x >> 3)
 }
 
 pub fn small_sigma1(x: u32) -> u32
     ensures { result ≡ σ1 x }
 {
-    let y = x ^ ((x >> 2) | (x << 30));
-    ((y >> 17) | (y << 15)) ^ (x >> 10)
+    (x ^ x.rotate_right(2)).rotate_right(17) ^ (x >> 10)
 }
 
 fn choice(x: u32, y: u32, z: u32) -> u32
@@ -57,15 +50,15 @@ fn majority(x: u32, y: u32, z: u32) -> u32
 fn first_sum(v: [u32; 8], k: u32, w: u32) -> u32
     ensures { result ≡ T1 v k w }
 {
-    let s = wrapping_add_u32(v[7], wrapping_add_u32(k, w));
-    let s = wrapping_add_u32(s, choice(v[4], v[5], v[6]));
-    wrapping_add_u32(s, big_sigma1(v[4]))
+    let s = v[7].wrapping_add(k.wrapping_add(w));
+    let s = s.wrapping_add(choice(v[4], v[5], v[6]));
+    s.wrapping_add(big_sigma1(v[4]))
 }
 
 fn second_sum(v: [u32; 8]) -> u32
     ensures { result ≡ T2 v }
 {
-    wrapping_add_u32(big_sigma0(v[0]), majority(v[0], v[1], v[2]))
+    big_sigma0(v[0]).wrapping_add(majority(v[0], v[1], v[2]))
 }
 
 pub fn one_round(v: [u32; 8], k: u32, w: u32) -> [u32; 8]
@@ -74,11 +67,11 @@ pub fn one_round(v: [u32; 8], k: u32, w: u32) -> [u32; 8]
     let t1 = first_sum(v, k, w);
     let t2 = second_sum(v);
     [
-        wrapping_add_u32(t1, t2),
+        t1.wrapping_add(t2),
         v[0],
         v[1],
         v[2],
-        wrapping_add_u32(v[3], t1),
+        v[3].wrapping_add(t1),
         v[4],
         v[5],
         v[6],
@@ -111,13 +104,15 @@ fn early(w: &[u32; 64], t: usize) -> u32
     requires { t < 48 }
     ensures { result ≡ slice_index_or w.now (t + 9) 0 ⊞ σ0 (slice_index w.now (t + 1)) ⊞ slice_index_or w.now t 0 }
 {
-    wrapping_add_u32(wrapping_add_u32(w[t + 9], small_sigma0(w[t + 1])), w[t])
+    w[t + 9]
+        .wrapping_add(small_sigma0(w[t + 1]))
+        .wrapping_add(w[t])
 }
 
 fn late(a: u32, e: u32) -> u32
     ensures { result ≡ σ1 a ⊞ e }
 {
-    wrapping_add_u32(small_sigma1(a), e)
+    small_sigma1(a).wrapping_add(e)
 }
 
 // Four words of the schedule at a time: the first parts of all four wait for none of them.
@@ -142,10 +137,8 @@ fn load(w: &mut [u32; 64], m: &[u8], at: usize)
     requires { (length w.old ≡ 64) × (at + 64 ≤ length m.now) }
     ensures { (length w.new ≡ 64) × (take 16 w.new ≡ words 16 (part m.now at 64)) }
 {
-    let mut t: usize = 0;
-    while t < 16 {
+    for t in 0..16 {
         w[t] = fields::get_u32(m, at + 4 * t);
-        t += 1;
     }
 }
 
@@ -154,10 +147,8 @@ fn extend(w: &mut [u32; 64])
     requires { length w.old ≡ 64 }
     ensures { w.new ≡ extended 48 (take 16 w.old) }
 {
-    let mut t: usize = 0;
-    while t < 48 {
+    for t in (0..48).step_by(4) {
         four_words(w, t);
-        t += 4;
     }
 }
 
@@ -165,10 +156,8 @@ fn added(h: [u32; 8], v: [u32; 8]) -> [u32; 8]
     ensures { result ≡ sums h v }
 {
     let mut r = [0u32; 8];
-    let mut i: usize = 0;
-    while i < 8 {
-        r[i] = wrapping_add_u32(h[i], v[i]);
-        i += 1;
+    for i in 0..8 {
+        r[i] = h[i].wrapping_add(v[i]);
     }
     r
 }
@@ -182,11 +171,9 @@ fn compressed(h: [u32; 8], m: &[u8], at: usize, constants: &[u32; 64]) -> [u32; 
     load(&mut w, m, at);
     extend(&mut w);
     let mut v = h;
-    let mut t: usize = 0;
-    while t < 64 {
+    for t in (0..64).step_by(8) {
         let next = eight_rounds(v, &w, constants, t);
         v = next;
-        t += 8;
     }
     added(h, v)
 }
@@ -197,11 +184,9 @@ fn blocks(h: [u32; 8], m: &[u8], at: usize, n: usize, constants: &[u32; 64]) -> 
     ensures { result ≡ hashed n m.now at h }
 {
     let mut x = h;
-    let mut j: usize = 0;
-    while j < n {
+    for j in 0..n {
         let next = compressed(x, m, at + 64 * j, constants);
         x = next;
-        j += 1;
     }
     x
 }
@@ -220,10 +205,8 @@ pub fn word_bytes(h: [u32; 8]) -> [u8; 32]
     ensures { result ≡ bytes h }
 {
     let mut d = [0u8; 32];
-    let mut i: usize = 0;
-    while i < 8 {
+    for i in 0..8 {
         fields::put_u32(&mut d, 4 * i, h[i]);
-        i += 1;
     }
     d
 }
@@ -252,9 +235,7 @@ pub fn initial() -> [u32; 8]
 pub fn in_bits(n: u64) -> u64
     ensures { result ≡ 8 * n % 2 ^ 64 }
 {
-    let two = wrapping_add_u64(n, n);
-    let four = wrapping_add_u64(two, two);
-    wrapping_add_u64(four, four)
+    n.wrapping_mul(8)
 }
 
 // The digest of a slice.
@@ -328,14 +309,14 @@ pub fn absorb(s: State, more: &[u8], constants: &[u32; 64]) -> State
     let block = s.block;
     let fill = s.fill;
     let n = more.len();
-    let total = wrapping_add_u64(s.total, n as u64);
+    let total = s.total.wrapping_add(n as u64);
     if n < 64 - fill {
         let b = placed(block, fill, more, 0, n);
         return State {
-            h: h,
+            h,
             block: b,
             fill: fill + n,
-            total: total,
+            total,
         };
     }
     let begun = (64 - fill) % 64;
@@ -347,7 +328,7 @@ pub fn absorb(s: State, more: &[u8], constants: &[u32; 64]) -> State
         h: whole,
         block: b,
         fill: rest,
-        total: total,
+        total,
     }
 }
 

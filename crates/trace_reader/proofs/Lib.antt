@@ -2,6 +2,5 @@
 mod Letters
 mod Passing
 mod Slotting
-mod Taking
 mod Sequence
 mod Heading

@@ -1,6 +1,6 @@
 -- The rows 15, 16, 15, 20, 21 of a record by the reader's tests. Assumes nothing.
 use mathlib.Core.Path.{◌≡◌, refl, sym, ap, ◌∙◌}
-use mathlib.Core.Bool.{Bool, true, false, cond, ◌&&◌}
+use mathlib.Core.Bool.{Bool, true, false, ◌&&◌}
 use Prim.Native.Nat.{ℕ, ◌+◌, ◌-◌, ◌≤◌, ◌<◌}
 use native.Mathlib.Omega.{arith}
 use borrow.Author.Tests.{le-leb, lt-leb, eq-eqb, ne_eqb}
@@ -9,13 +9,16 @@ use lib.ListN.{length, get_or, drop, length-drop}
 use Rattle.fields.specs.Fields.{field}
 use Rattle.fields.proofs.Places.{field-drop, first-left, some_left}
 use Rattle.model.specs.Numbers.{Bytes, above}
-use Rattle.model.specs.Result.{◌>>=◌, need, ok, refuse}
+use Rattle.model.specs.Result.{Result, ◌>>=◌, need, ok, refuse}
 use Rattle.model.specs.Graph.{VersionNode}
 use Rattle.model.specs.Trace.{letter_width}
 use Rattle.model.specs.Question.{Way}
+use Rattle.outcome.specs.declared.Row.TheVariants.{AnswerCut, LetterNotDue, PositionNotBelow, TraceTimeNotAbove}
+use Rattle.outcome.specs.declared.Refusal.{Refusal}
+use Rattle.outcome.specs.Outcomes.{number_of, told}
+use Rattle.std.specs.Prelude.{Ok, Err}
 use Rattle.model.specs.CheckRows.{due, shown_edges, shown_record, all_below, read_record}
-use Rattle.trace_reader.specs.declared.RecordRow.TheVariants.{Read, Refused}
-use Rattle.trace_reader.specs.Records.{before_of, values_row, Reads, reads, refused}
+use Rattle.trace_reader.specs.Records.{before_of, values_row, Shown}
 
 -- ---- row 20
 
@@ -61,85 +64,79 @@ then_later i last t b h e = simp (ne_eqb i 0 h) e
 
 -- ---- both
 
+-- turned away by r, which is e
+pub turned : {A : Type 0} (m : Result A) (e : Refusal) → m ≡ refuse (number_of e.row) e.position → (r : Refusal) → r ≡ e → m ≡ refuse (number_of r.row) r.position
+turned m e h r k = h ∙ ap (λ (x : Refusal). refuse (number_of x.row) x.position) (sym k)
+
 module _ (answer : Bytes) (at c i last : ℕ) (b : Bool) (low : b ≡ all_below i (shown_edges c (drop at answer))) where
-  pub meets_20 : b ≡ false → 20 ≡ values_row i last (shown_record c (drop at answer))
-  unfolding values_row shown_record
-  meets_20 e = simp (sym low ∙ e)
+  pub meets_20 : b ≡ false → (r : Refusal) → r ≡ record { row = PositionNotBelow; position = at } → told {A = Unit {0}} (Err r) ≡ values_row i last at (shown_record c (drop at answer))
+  unfolding values_row shown_record need ◌>>=◌
+  meets_20 e r k = sym (turned _ (record { row = PositionNotBelow; position = at }) (simp (sym low ∙ e)) r k)
 
   module _ (pass : b ≡ true) (t : ℕ) (time : t ≡ field 8 answer (at + 5)) (d : Bool) (high : d ≡ above (before_of i last) t) where
     time_test : above (before_of i last) (field 8 (drop at answer) 5) ≡ d
     time_test = ap (above (before_of i last)) (field-drop at answer 8 5 ∙ sym time) ∙ sym high
 
-    pub meets_neither : d ≡ true → 0 ≡ values_row i last (shown_record c (drop at answer))
-    unfolding values_row shown_record
+    pub meets_neither : d ≡ true → told {A = Unit {0}} (Ok tt) ≡ values_row i last at (shown_record c (drop at answer))
+    unfolding values_row shown_record need ◌>>=◌
     meets_neither e = simp (sym low ∙ pass, time_test ∙ e)
 
-    pub meets_21 : d ≡ false → 21 ≡ values_row i last (shown_record c (drop at answer))
-    unfolding values_row shown_record
-    meets_21 e = simp (sym low ∙ pass, time_test ∙ e)
+    pub meets_21 : d ≡ false → (r : Refusal) → r ≡ record { row = TraceTimeNotAbove; position = at } → told {A = Unit {0}} (Err r) ≡ values_row i last at (shown_record c (drop at answer))
+    unfolding values_row shown_record need ◌>>=◌
+    meets_21 e r k = sym (turned _ (record { row = TraceTimeNotAbove; position = at }) (simp (sym low ∙ pass, time_test ∙ e)) r k)
 
 -- ---- all rows of a record
 
-abbrev row_leaves : Bool → Bool → ℕ
-row_leaves b d = cond b (cond d 0 21) 20
-
-after_rows : (b d : Bool) (pos : ℕ) (n : VersionNode) → row_leaves b d ≡ 0 → (need b 20 pos >>= λ _. need d 21 pos >>= λ _. ok n) ≡ ok n
+rows_together : (b d : Bool) (pos : ℕ) (n : VersionNode) → (need b 20 pos >>= λ _. need d 21 pos >>= λ _. ok n) ≡ ((need b 20 pos >>= λ _. need d 21 pos) >>= λ _. ok n)
 unfolding need ◌>>=◌
-after_rows true true pos n e = refl
-after_rows true false pos n e = absurd (let z : ⊥ = omega arith in z)
-after_rows false d pos n e = absurd (let z : ⊥ = omega arith in z)
+rows_together true d pos n = refl
+rows_together false d pos n = refl
 
-at_row : (b d : Bool) (pos : ℕ) (n : VersionNode) → (row_leaves b d ≡ 0 → ⊥) → (need b 20 pos >>= λ _. need d 21 pos >>= λ _. ok n) ≡ refuse (row_leaves b d) pos
+low_then : (b : Bool) (pos : ℕ) (f : Result (Unit {0})) → (need b 20 pos >>= λ _. f) ≡ ok tt → b ≡ true
 unfolding need ◌>>=◌
-at_row true true pos n e = absurd (e refl)
-at_row true false pos n e = refl
-at_row false d pos n e = refl
-
-all-low : (b d : Bool) → row_leaves b d ≡ 0 → b ≡ true
-all-low true d e = refl
-all-low false d e = absurd (let z : ⊥ = omega arith in z)
+low_then true pos f e = refl
+low_then false pos f e = cc
 
 module _ (way : Way) (i last : ℕ) (answer : Bytes) (at : ℕ) where
-  pub no_byte : length answer - at ≡ 0 → Reads way i last answer at (Refused 15)
+  abbrev pub Turns : Refusal → Type 0
+  Turns r = read_record way i (before_of i last) at (drop at answer) ≡ refuse (number_of r.row) r.position
+
+  pub no_byte : length answer - at ≡ 0 → (r : Refusal) → r ≡ record { row = AnswerCut; position = at } → Turns r
   unfolding read_record need ◌>>=◌
-  no_byte e = refused 15 (simp (lt-leb 1 (length (drop at answer)) (omega (arith, length-drop at answer))))
+  no_byte e = turned _ (record { row = AnswerCut; position = at }) (simp (lt-leb 1 (length (drop at answer)) (omega (arith, length-drop at answer))))
 
-  module _ (more : length answer - at ≡ 0 → ⊥) where
-    module _ (b : Bool) (test : b ≡ due way i (get_or answer at 0)) where
-      pub not_due : b ≡ false → Reads way i last answer at (Refused 16)
+  module _ (more : length answer - at ≡ 0 → ⊥) (b : Bool) (test : b ≡ due way i (get_or answer at 0)) where
+    pub not_due : b ≡ false → (r : Refusal) → r ≡ record { row = LetterNotDue; position = at } → Turns r
+    unfolding read_record need ◌>>=◌
+    not_due e = turned _ (record { row = LetterNotDue; position = at }) (simp (some_left at answer more, first-left at answer 0, sym test ∙ e))
+
+    module _ (is-due : b ≡ true) (w : ℕ) (width : w ≡ letter_width (get_or answer at 0)) where
+      pub too_short : length answer - at < w → (r : Refusal) → r ≡ record { row = AnswerCut; position = at } → Turns r
       unfolding read_record need ◌>>=◌
-      not_due e = refused 16 (simp (some_left at answer more, first-left at answer 0, sym test ∙ e))
+      too_short h =
+          turned _ (record { row = AnswerCut; position = at })
+          (simp (some_left at answer more, first-left at answer 0, sym test ∙ is-due, lt-leb (letter_width (get_or answer at 0)) (length (drop at answer)) (omega (arith, length-drop at answer))))
 
-      module _ (is-due : b ≡ true) (w : ℕ) (width : w ≡ letter_width (get_or answer at 0)) where
-        pub too_short : length answer - at < w → Reads way i last answer at (Refused 15)
-        unfolding read_record need ◌>>=◌
-        too_short h =
-            refused 15
-            (simp (some_left at answer more, first-left at answer 0, sym test ∙ is-due, lt-leb (letter_width (get_or answer at 0)) (length (drop at answer)) (omega (arith, length-drop at answer))))
+      module _ (fits : w ≤ length answer - at) where
+        abbrev pub n : VersionNode
+        n = shown_record (get_or answer at 0) (drop at answer)
 
-        module _ (fits : w ≤ length answer - at) (number : ℕ) (row : number ≡ values_row i last (shown_record (get_or answer at 0) (drop at answer))) where
-          n : VersionNode
-          n = shown_record (get_or answer at 0) (drop at answer)
+        rows_left : read_record way i (before_of i last) at (drop at answer) ≡ (values_row i last at n >>= λ _. ok n)
+        unfolding read_record values_row need ◌>>=◌
+        rows_left =
+            simp (some_left at answer more, first-left at answer 0, sym test ∙ is-due, le-leb (letter_width (get_or answer at 0)) (length (drop at answer)) (omega (arith, length-drop at answer)))
+            (rows_together (all_below i n.in_edges) (above (before_of i last) n.time) at n)
 
-          rows_left : read_record way i (before_of i last) at (drop at answer)
-              ≡ (need (all_below i n.in_edges) 20 at >>= λ _. need (above (before_of i last) n.time) 21 at >>= λ _. ok n)
-          unfolding read_record need ◌>>=◌ n
-          rows_left =
-              simp (some_left at answer more, first-left at answer 0, sym test ∙ is-due, le-leb (letter_width (get_or answer at 0)) (length (drop at answer)) (omega (arith, length-drop at answer)))
+        pub record_passes : at ≤ length answer → told {A = Unit {0}} (Ok tt) ≡ values_row i last at n → Shown way i last answer at (get_or answer at 0)
+        unfolding values_row shown_record ◌>>=◌
+        record_passes inside e =
+            record {
+              is = rows_left ∙ ap (λ (m : Result (Unit {0})). m >>= λ _. ok n) (sym e);
+              letter_is = sym (first-left at answer 0);
+              inside = omega arith;
+              below = low_then (all_below i n.in_edges) at _ (sym e);
+            }
 
-          pub record_passes : at ≤ length answer → number ≡ 0 → Reads way i last answer at (Read (get_or answer at 0))
-          unfolding values_row shown_record n
-          record_passes inside e =
-              reads _
-              (record {
-                is = rows_left ∙ after_rows (all_below i n.in_edges) (above (before_of i last) n.time) at n (sym row ∙ e);
-                letter_is = sym (first-left at answer 0);
-                inside = omega arith;
-                below = all-low (all_below i n.in_edges) (above (before_of i last) n.time) (sym row ∙ e);
-              })
-
-          pub values_refused : (number ≡ 0 → ⊥) → Reads way i last answer at (Refused number)
-          unfolding values_row n
-          values_refused h =
-              refused number
-              (rows_left ∙ at_row (all_below i n.in_edges) (above (before_of i last) n.time) at n (λ z. h (row ∙ z)) ∙ ap (λ (x : ℕ). refuse x at) (sym row))
+        pub values_refused : (e : Refusal) → told {A = Unit {0}} (Err e) ≡ values_row i last at n → Turns e
+        unfolding ◌>>=◌
+        values_refused e h = rows_left ∙ ap (λ (m : Result (Unit {0})). m >>= λ _. ok n) (sym h)

@@ -1,5 +1,5 @@
 -- The records of a trace, one after the other. Assumes nothing.
-use mathlib.Core.Path.{◌≡◌, refl, sym, ap, ap₂, ◌∙◌, subst}
+use mathlib.Core.Path.{◌≡◌, refl, sym, ap, ap₂, ◌∙◌}
 use mathlib.Core.List.{List, [], ◌∷◌, ◌++◌, map}
 use mathlib.Core.Option.{Option, some}
 use Prim.Native.Nat.{ℕ, suc, ◌+◌, ◌-◌, ◌*◌, ◌≤◌, ◌<◌}
@@ -9,7 +9,6 @@ use native.Mathlib.Omega.{arith}
 use borrow.Author.Tests.{ne_eqb}
 use lib.ListN.{length, get_or, drop}
 use lib.Seq.{drop-drop}
-use Rattle.fields.specs.Fields.{field}
 use Rattle.fields.proofs.Places.{field-drop}
 use Rattle.model.specs.Numbers.{Bytes, counting}
 use Rattle.model.specs.Result.{Result, ok, refuse, ◌>>=◌}
@@ -20,13 +19,12 @@ use Rattle.model.specs.CheckRows.{shown_record, read_record, last_shown, read_re
 use Rattle.model.proofs.Outcomes.{bind_eq, bind_refused}
 use Rattle.model.proofs.CheckSteps.{records-end, records-step}
 use Rattle.model.proofs.TraceReading.{last_shown_snoc}
-use Rattle.question.specs.declared.TimeKey.{TimeKey}
 use Rattle.graph.specs.Table.{nodes_in}
 use Rattle.graph.proofs.Nodes.{length-nodes, map_counting_more, map_counting_same, nodes-more, nodes-same}
+use Rattle.outcome.specs.declared.Refusal.{Refusal}
+use Rattle.outcome.specs.Outcomes.{number_of}
 use Rattle.trace_reader.specs.declared.Step.{Step}
-use Rattle.trace_reader.specs.declared.Step.TheVariants.{Taken, Refused as Halted}
-use Rattle.trace_reader.specs.declared.Records.TheVariants.{Read as AllRead, Refused as Turned}
-use Rattle.trace_reader.specs.Records.{before_of, Shown, RecordInSlot, Steps, taken, halted, place_in, places_in, RecordsAre, in_table, turned}
+use Rattle.trace_reader.specs.Records.{before_of, RecordInSlot, Taken, place_in, places_in, InTable}
 use Rattle.trace_reader.proofs.Letters.{width_most}
 
 -- ---- one slot more
@@ -51,7 +49,6 @@ module _ (work work' : Bytes) (i : ℕ) (n : VersionNode) (place : ℕ) (put : R
 -- i records of the trace are in the table, and the rest begins at byte `at`
 pub record ReadTo (way : Way) (count : ℕ) (answer : Bytes) (start i last : ℕ) (work : Bytes) (at : ℕ) : Type 0 where
   pub rest : read_records way count [] [] (start + 5) (drop (start + 5) answer) ≡ read_records way (count - i) (nodes_in work i) (places_in work start i) at (drop at answer)
-  pub few : i ≤ count
   pub before : last_shown (nodes_in work i) ≡ before_of i last
   pub inside : at ≤ length answer
   pub begun : start ≤ at
@@ -61,7 +58,7 @@ pub none_read : (way : Way) (count : ℕ) (answer : Bytes) (start : ℕ) (work :
 unfolding before_of last_shown nodes_in places_in
 none_read way count answer start work h =
     let all : count ≡ count - 0 = omega arith in
-    record { rest = ap (λ (k : ℕ). read_records way k [] [] (start + 5) (drop (start + 5) answer)) all; few = omega arith; before = refl; inside = h; begun = omega arith; near = omega arith }
+    record { rest = ap (λ (k : ℕ). read_records way k [] [] (start + 5) (drop (start + 5) answer)) all; before = refl; inside = h; begun = omega arith; near = omega arith }
 
 module _ (way : Way) (count : ℕ) (answer : Bytes) (start i last : ℕ) (work : Bytes) (at : ℕ) (R : ReadTo way count answer start i last work at) (more : i < count) where
   next : (m : Result VersionNode) → read_record way i (before_of i last) at (drop at answer) ≡ m
@@ -78,69 +75,60 @@ module _ (way : Way) (count : ℕ) (answer : Bytes) (start i last : ℕ) (work :
       R.rest ∙ ap (λ (k : ℕ). read_records way k (nodes_in work i) (places_in work start i) at (drop at answer)) left
       ∙ records-step way (count - (i + 1)) (nodes_in work i) (places_in work start i) at (drop at answer)
 
-  pub stops-there : (work' : Bytes) (place : ℕ) (s : Step) → Steps way i last answer at work work' place s → (n : ℕ) → s ≡ Halted n
-      → RecordsAre (read_records way count [] [] (start + 5) (drop (start + 5) answer)) answer start count work' (Turned n at)
-  stops-there work' place s S n e = go (subst (Steps way i last answer at work work' place) e S)
-    where
-      go : Steps way i last answer at work work' place (Halted n) → RecordsAre (read_records way count [] [] (start + 5) (drop (start + 5) answer)) answer start count work' (Turned n at)
-      go (halted _ h) = turned n at (one-step ∙ bind_refused _ _ n at (next (refuse n at) h))
+  pub stops-there : (e : Refusal) → read_record way i (before_of i last) at (drop at answer) ≡ refuse (number_of e.row) e.position
+      → read_records way count [] [] (start + 5) (drop (start + 5) answer) ≡ refuse (number_of e.row) e.position
+  stops-there e h = one-step ∙ bind_refused _ _ (number_of e.row) e.position (next (refuse (number_of e.row) e.position) h)
 
-  module _ (c w : ℕ) (t : ℕ) (work' : Bytes) (sh : Shown way i last answer at c) (put : RecordInSlot work work' i (shown_record c (drop at answer)) (at - start)) (hw : w ≡ letter_width c) (ht : t ≡ field 8 answer (at + 5)) where
-    n : VersionNode
-    n = shown_record c (drop at answer)
+  module _ (work' : Bytes) (step : Step) (T : Taken way i last answer at work work' (at - start) step) where
+    abbrev w : ℕ
+    w = step.width
+
+    abbrev t : ℕ
+    t = step.time.0
+
+    abbrev n : VersionNode
+    n = shown_record T.letter (drop at answer)
 
     width_is : letter_width (get_or (drop at answer) 0 0) ≡ w
-    width_is = ap letter_width (sym sh.letter_is) ∙ sym hw
+    width_is = ap letter_width (sym T.shown.letter_is) ∙ sym T.width_is
 
     time-is : n.time ≡ t
-    unfolding shown_record n
-    time-is = field-drop at answer 8 5 ∙ sym ht
+    unfolding shown_record
+    time-is = field-drop at answer 8 5 ∙ sym T.time_is
 
     last_is : last_shown (nodes_in work' (i + 1)) ≡ before_of (i + 1) t
-    unfolding before_of n
+    unfolding before_of
     last_is =
-        ap last_shown (nodes_then work work' i n (at - start) put) ∙ last_shown_snoc (nodes_in work i) n ∙ ap some time-is
+        ap last_shown (nodes_then work work' i n (at - start) T.put) ∙ last_shown_snoc (nodes_in work i) n ∙ ap some time-is
         ∙ sym (simp (ne_eqb (i + 1) 0 (λ e. omega arith)))
 
-    goes : ReadTo way count answer start (i + 1) t work' (at + w)
-    unfolding n
-    goes =
+    pub goes_on : ReadTo way count answer start (i + 1) step.time.0 work' (at + step.width)
+    goes_on =
         let from = R.begun in
         let near = R.near in
         record {
           rest =
               one-step
-              ∙ bind_eq _ _ n (next (ok n) sh.is)
+              ∙ bind_eq _ _ n (next (ok n) T.shown.is)
               ∙ ap₂ (λ (a : List VersionNode) (b : List ℕ). read_records way (count - (i + 1)) a b (at + letter_width (get_or (drop at answer) 0 0)) (drop (letter_width (get_or (drop at answer) 0 0)) (drop at answer)))
-              (sym (nodes_then work work' i n (at - start) put)) (sym (places_then work work' i n (at - start) put start at (omega arith)))
+              (sym (nodes_then work work' i n (at - start) T.put)) (sym (places_then work work' i n (at - start) T.put start at (omega arith)))
               ∙ ap (λ (v : ℕ). read_records way (count - (i + 1)) (nodes_in work' (i + 1)) (places_in work' start (i + 1)) (at + v) (drop v (drop at answer))) width_is
               ∙ ap (read_records way (count - (i + 1)) (nodes_in work' (i + 1)) (places_in work' start (i + 1)) (at + w)) (drop-drop w at answer);
-          few = omega arith;
           before = last_is;
-          inside = omega (arith, sh.inside);
+          inside = omega (arith, T.shown.inside, T.width_is);
           begun = omega arith;
-          near = omega (arith, width_most c);
+          near = omega (arith, width_most T.letter, T.width_is);
         }
 
-  pub goes_on : (work' : Bytes) (s : Step) → Steps way i last answer at work work' (at - start) s → (w : ℕ) (t : TimeKey) → s ≡ Taken w t
-      → ReadTo way count answer start (i + 1) t.0 work' (at + w)
-  goes_on work' s S w t e = go (subst (Steps way i last answer at work work' (at - start)) e S)
-    where
-      go : Steps way i last answer at work work' (at - start) (Taken w t) → ReadTo way count answer start (i + 1) t.0 work' (at + w)
-      go (taken c _ _ sh put hw ht) = goes c w t.0 work' sh put hw ht
-
-pub all_read : (way : Way) (count : ℕ) (answer : Bytes) (start i last : ℕ) (work : Bytes) (at : ℕ) → ReadTo way count answer start i last work at → count ≤ i
-    → RecordsAre (read_records way count [] [] (start + 5) (drop (start + 5) answer)) answer start count work (AllRead at)
-all_read way count answer start i last work at R end =
-    let few = R.few in
-    let same : i ≡ count = omega arith in
+pub all_read : (way : Way) (count : ℕ) (answer : Bytes) (start i last : ℕ) (work : Bytes) (at : ℕ) → ReadTo way count answer start i last work at → i ≡ count
+    → InTable (read_records way count [] [] (start + 5) (drop (start + 5) answer)) answer start count work at
+all_read way count answer start i last work at R same =
     let none : count - i ≡ 0 = omega arith in
-    in_table at
-    (record {
+    record {
       is =
           R.rest
           ∙ ap (λ (k : ℕ). read_records way k (nodes_in work i) (places_in work start i) at (drop at answer)) none
           ∙ records-end way (nodes_in work i) (places_in work start i) at (drop at answer)
           ∙ ap (λ (k : ℕ). ok (record { records = nodes_in work k; places = places_in work start k; pos = at; rest = drop at answer })) same;
       inside = R.inside;
-    })
+    }

@@ -8,6 +8,7 @@ ghost use Rattle.model.specs.Numbers.{above};
 ghost use Rattle.model.specs.Question.{forward};
 ghost use Rattle.model.specs.Trace.{trace_header_width, letter_width};
 ghost use Rattle.model.specs.CheckRows.{due, shown_edges, shown_record, all_below, read_records};
+ghost use Rattle.outcome.specs.Outcomes.{told};
 ghost use Rattle.question.specs.Ways.{way_of};
 ghost use Rattle.graph.specs.Table.{slot_width, Slot, absent, version, NodePut};
 ghost use Rattle.trace_reader.specs.Records.{before_of, values_row, Reads, RecordInSlot, Steps, RecordsAre, HeaderIs, TraceIs};
@@ -15,6 +16,7 @@ ghost use Rattle.trace_reader.specs.Records.{before_of, values_row, Reads, Recor
 use fields::{get_u32, get_u64, put_u32};
 use graph::{ABSENT, PLACE_COLUMN, SLOT_WIDTH, put_node};
 use model::{LETTER_D, LETTER_E, LETTER_S, LETTER_T, LETTER_V};
+use outcome::{Refusal, Row};
 use question::{TimeKey, Way, entity_at, trace_letter};
 use strings::{
     D_KIND, D_SOURCE, D_WIDTH, E_WIDTH, RECORD_ENTITY, RECORD_TIME, T_PREVIOUS, T_WIDTH,
@@ -109,52 +111,42 @@ fn later(i: usize, last: TimeKey, time: TimeKey) -> bool
     if i == 0 {
         return true;
     }
-    last.below(time)
+    last < time
 }
 
-// Rows 20 and 21 of the i-th record, after one at the time `last`: 0 if it meets neither.
-fn values_row(answer: &[u8], at: usize, letter: u8, i: usize, last: TimeKey) -> u64
+// Rows 20 and 21 of the i-th record, after one at the time `last`.
+fn values_row(answer: &[u8], at: usize, letter: u8, i: usize, last: TimeKey) -> Result<(), Refusal>
     requires { at + letter_width letter ≤ length answer.now }
-    ensures { result ≡ values_row i last.0 (shown_record letter (drop at answer.now)) }
+    ensures { told result ≡ values_row i last.0 at (shown_record letter (drop at answer.now)) }
 {
-    if positions_below(answer, at, letter, i) {
-        let time = TimeKey(get_u64(answer, at + RECORD_TIME));
-        if later(i, last, time) {
-            return 0;
-        }
-        return 21;
+    if !positions_below(answer, at, letter, i) {
+        return Err(Row::PositionNotBelow.at(at));
     }
-    20
+    let time = TimeKey(get_u64(answer, at + RECORD_TIME));
+    if !later(i, last, time) {
+        return Err(Row::TraceTimeNotAbove.at(at));
+    }
+    Ok(())
 }
 
-// A record's letter, or the row that it meets.
-#[derive(Clone, Copy)]
-enum RecordRow {
-    Read { letter: u8 },
-    Refused { number: u64 },
-}
-
-// The rows of the i-th record, which begins at a place: 15 (no byte), 16, 15 (width), 20, 21.
-fn record_row(answer: &[u8], at: usize, way: Way, i: usize, last: TimeKey) -> RecordRow
+// The letter of the i-th record, which begins at a place, or a row: 15 (no byte), 16, 15 (width), 20, 21.
+fn record_row(answer: &[u8], at: usize, way: Way, i: usize, last: TimeKey) -> Result<u8, Refusal>
     requires { at ≤ length answer.now }
     ensures { Reads (way_of way) i last.0 answer.now at result }
 {
     let left = answer.len() - at;
     if left == 0 {
-        return RecordRow::Refused { number: 15 };
+        return Err(Row::AnswerCut.at(at));
     }
     let letter = answer[at];
-    if letter_due(way, i, letter) {
-        if left < width_of(letter) {
-            return RecordRow::Refused { number: 15 };
-        }
-        let number = values_row(answer, at, letter, i, last);
-        if number == 0 {
-            return RecordRow::Read { letter: letter };
-        }
-        return RecordRow::Refused { number: number };
+    if !letter_due(way, i, letter) {
+        return Err(Row::LetterNotDue.at(at));
     }
-    RecordRow::Refused { number: 16 }
+    if left < width_of(letter) {
+        return Err(Row::AnswerCut.at(at));
+    }
+    values_row(answer, at, letter, i, last)?;
+    Ok(letter)
 }
 
 // ---- a record in the table
@@ -167,7 +159,7 @@ fn start_at(answer: &[u8], at: usize) -> u16
     get_u32(answer, at) as u16
 }
 
-// Puts the version of the record at a place into slot i, with the starts of its edges.
+// Puts the version of the record at a place into slot i, with the starts of its edges: ABSENT, as a slot has it, where there is none.
 fn put_record_node(
     answer: &[u8],
     at: usize,
@@ -218,11 +210,11 @@ fn put_record(answer: &[u8], at: usize, letter: u8, work: &mut [u8], i: usize, p
     put_u32(work, SLOT_WIDTH * i + PLACE_COLUMN, place as u32);
 }
 
-// A record's width and time, or the row that it meets.
+// The way from a record to the next one: its width, and its time, which the next one's is above.
 #[derive(Clone, Copy)]
-enum Step {
-    Taken { width: usize, time: TimeKey },
-    Refused { number: u64 },
+struct Step {
+    width: usize,
+    time: TimeKey,
 }
 
 // Takes the i-th record in, which begins at a place: its rows, and then its slot.
@@ -234,127 +226,84 @@ fn read_record(
     last: TimeKey,
     work: &mut [u8],
     place: usize,
-) -> Step
+) -> Result<Step, Refusal>
     requires { (at ≤ length answer.now) × (i ≤ absent) × Slot work.old i × (place < 2 ^ 32) }
     ensures { Steps (way_of way) i last.0 answer.now at work.old work.new place result }
 {
-    match record_row(answer, at, way, i, last) {
-        RecordRow::Refused { number } => Step::Refused { number: number },
-        RecordRow::Read { letter } => {
-            put_record(answer, at, letter, work, i, place);
-            let time = TimeKey(get_u64(answer, at + RECORD_TIME));
-            Step::Taken {
-                width: width_of(letter),
-                time: time,
-            }
-        }
-    }
+    let letter = record_row(answer, at, way, i, last)?;
+    put_record(answer, at, letter, work, i, place);
+    let time = TimeKey(get_u64(answer, at + RECORD_TIME));
+    let width = width_of(letter);
+    Ok(Step { width, time })
 }
 
 // ---- all records
 
-// The byte behind the last record, or the row that a record meets and where.
-#[derive(Clone, Copy)]
-enum Records {
-    Read { at: usize },
-    Refused { number: u64, position: usize },
-}
-
-// Reads the records of the trace that starts at a place into the table.
-fn read_records(answer: &[u8], start: usize, way: Way, count: usize, work: &mut [u8]) -> Records
+// Reads the records of the trace that starts at a place into the table, and gives the byte behind the last one.
+fn read_records(
+    answer: &[u8],
+    start: usize,
+    way: Way,
+    count: usize,
+    work: &mut [u8],
+) -> Result<usize, Refusal>
     requires { (start + trace_header_width ≤ length answer.now) × (count ≤ absent) × (slot_width * count ≤ length work.old) }
     ensures { RecordsAre (read_records (way_of way) count [] [] (start + trace_header_width) (drop (start + trace_header_width) answer.now)) answer.now start count work.new result }
 {
     let mut at = start + TRACE_HEADER_WIDTH;
     let mut last = TimeKey(0);
-    let mut i: usize = 0;
-    while i < count {
-        match read_record(answer, at, way, i, last, work, at - start) {
-            Step::Refused { number } => {
-                return Records::Refused {
-                    number: number,
-                    position: at,
-                };
-            }
-            Step::Taken { width, time } => {
-                last = time;
-                at += width;
-                i += 1;
-            }
-        }
+    for i in 0..count {
+        let step = read_record(answer, at, way, i, last, work, at - start)?;
+        last = step.time;
+        at += step.width;
     }
-    Records::Read { at: at }
+    Ok(at)
 }
 
 // ---- the trace
 
-// The number of records that a trace's header says, or the row that it meets; a work area that is too short is row 12.
-#[derive(Clone, Copy)]
-enum Header {
-    Count { count: usize },
-    Refused { number: u64 },
-    Short,
-}
-
-// The header of the trace at a place: 15 (no byte), 16, 15 (width), 19, 12. The work area has `size` bytes.
-fn read_header(answer: &[u8], at: usize, way: Way, size: usize) -> Header
+// The number of records that the header of the trace at a place says, or a row: 15 (no byte), 16, 15 (width), 19, 12. The work area has
+// `size` bytes.
+fn read_header(answer: &[u8], at: usize, way: Way, size: usize) -> Result<usize, Refusal>
     requires { at ≤ length answer.now }
     ensures { HeaderIs (way_of way) size answer.now at result }
 {
     let left = answer.len() - at;
     if left == 0 {
-        return Header::Refused { number: 15 };
+        return Err(Row::AnswerCut.at(at));
     }
     if answer[at] != trace_letter(way) {
-        return Header::Refused { number: 16 };
+        return Err(Row::LetterNotDue.at(at));
     }
     if left < TRACE_HEADER_WIDTH {
-        return Header::Refused { number: 15 };
+        return Err(Row::AnswerCut.at(at));
     }
     let count = get_u32(answer, at + TRACE_COUNT) as usize;
     if count < 1 {
-        return Header::Refused { number: 19 };
+        return Err(Row::CountOutOfRange.at(at));
     }
     if 65535 < count {
-        return Header::Refused { number: 19 };
+        return Err(Row::CountOutOfRange.at(at));
     }
     if size < SLOT_WIDTH * count {
-        return Header::Short;
+        return Err(Row::WorkAreaShort.at(0));
     }
-    Header::Count { count: count }
+    Ok(count)
 }
 
-// A trace's number of records and the byte behind it, or the row that it meets and where.
+// A trace that was read: how many records it has, and the byte behind it.
 #[derive(Clone, Copy)]
-pub enum Trace {
-    Read { count: usize, end: usize },
-    Refused { number: u64, position: usize },
+pub struct Trace {
+    pub count: usize,
+    pub end: usize,
 }
 
 // Reads the trace at a place into the table.
-pub fn read_trace(answer: &[u8], at: usize, way: Way, work: &mut [u8]) -> Trace
+pub fn read_trace(answer: &[u8], at: usize, way: Way, work: &mut [u8]) -> Result<Trace, Refusal>
     requires { at ≤ length answer.now }
     ensures { TraceIs (way_of way) (length work.old) answer.now at work.new result }
 {
-    let size = work.len();
-    match read_header(answer, at, way, size) {
-        Header::Refused { number } => Trace::Refused {
-            number: number,
-            position: at,
-        },
-        Header::Short => Trace::Refused {
-            number: 12,
-            position: 0,
-        },
-        Header::Count { count } => match read_records(answer, at, way, count, work) {
-            Records::Refused { number, position } => Trace::Refused {
-                number: number,
-                position: position,
-            },
-            Records::Read { at: end } => Trace::Read {
-                count: count,
-                end: end,
-            },
-        },
-    }
+    let count = read_header(answer, at, way, work.len())?;
+    let end = read_records(answer, at, way, count, work)?;
+    Ok(Trace { count, end })
 }

@@ -54,9 +54,7 @@ fn mark_backward(work: &mut [u8], n: usize, v: usize)
 {
     mark_only(work, n, v);
     mark_starts(work, v);
-    let mut i = v;
-    while 0 < i {
-        i -= 1;
+    for i in (0..v).rev() {
         mark_starts_if_marked(work, i);
     }
 }
@@ -92,11 +90,9 @@ fn mark_forward(work: &mut [u8], n: usize, v: usize)
     ensures { MarksDone forward work.old work.new n v }
 {
     mark_only(work, n, v);
-    let mut i = v + 1;
-    while i < n {
+    for i in v + 1..n {
         let reached = either_inside(work, i);
         set_mark(work, i, reached);
-        i += 1;
     }
 }
 
@@ -137,11 +133,9 @@ fn set_positions(work: &mut [u8], n: usize)
     ensures { PositionsDone work.old work.new n }
 {
     let mut position: u32 = 0;
-    let mut i: usize = 0;
-    while i < n {
+    for i in 0..n {
         put_u32(work, SLOT_WIDTH * i + POSITION_COLUMN, position);
         position += record_count(work, i);
-        i += 1;
     }
 }
 
@@ -182,10 +176,8 @@ fn trace_length(work: &[u8], n: usize) -> usize
     ensures { TraceLength work.now n result }
 {
     let mut length: usize = TRACE_HEADER_WIDTH;
-    let mut i: usize = 0;
-    while i < n {
+    for i in 0..n {
         length += record_width(work, i);
-        i += 1;
     }
     length
 }
@@ -312,10 +304,8 @@ fn put_records(way: Way, work: &[u8], n: usize, out: &mut [u8])
     ensures { out.new ≡ written out.old trace_header_width (slot_strings (way_of way) work.now n) }
 {
     let mut at: usize = TRACE_HEADER_WIDTH;
-    let mut i: usize = 0;
-    while i < n {
+    for i in 0..n {
         at = put_record(way, work, i, out, at);
-        i += 1;
     }
 }
 

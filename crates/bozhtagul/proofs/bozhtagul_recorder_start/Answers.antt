@@ -2,4 +2,4 @@ use Rattle.bozhtagul.proofs.Recorders.{start_plain}
 use Rattle.bozhtagul.proofs.bozhtagul_recorder_start.Goals as goal
 
 pub returns : goal.returns
-returns c = let h = c.start.ensures in start_plain _ _ _ h.result h.cleared _ c.as_row.ensures
+returns c = let k = c.start.ensures in start_plain _ _ _ k.result k.cleared _ c.from.ensures

@@ -1,18 +1,19 @@
-use Rattle.checker.proofs.Calls.{bounds-unknown, bounds-reversed, bounds-all, bounds-one}
+use Rattle.std.proofs.lemmas.Result.{err_from_is_err_and}
+use Rattle.checker.proofs.Calls.{bounds_refused, one_without, one-records, all_without}
 use Rattle.checker.proofs.bounds_asked.Goals as goal
 
-pub returns-in-Unknown : goal.returns-in-Unknown
-returns-in-Unknown c =
-    λ d s t t2 h. bounds-unknown d s t t2 _ h _ _ _ _ c.in-Unknown.is c.no_records.ensures
+pub returns-in_err-question : goal.returns-in_err-question
+returns-in_err-question c =
+    let p = err_from_is_err_and c.from_residual.result c.from_residual.ensures.1 in
+    rw (p.1, p.2) (bounds_refused _ _ _ _ _ _ _ _ c.in_err-question.ensures)
 
-pub returns-in-Reversed : goal.returns-in-Reversed
-returns-in-Reversed c =
-    λ d s t t2 h. bounds-reversed d s t t2 _ h _ _ _ _ c.in-Reversed.is c.no_records-in-Reversed.ensures
+pub returns-in_err-run_one-in-One : goal.returns-in_err-run_one-in-One
+returns-in_err-run_one-in-One c =
+    let p = err_from_is_err_and c.from_residual-in_err-run_one-in-One.result c.from_residual-in_err-run_one-in-One.ensures.1 in
+    rw (p.1, p.2) (one_without _ _ _ _ _ _ _ _ c.in_ok-question.ensures _ c.in-One.is _ c.in_err-run_one-in-One.ensures)
+
+pub returns-in_ok-run_one-in-One : goal.returns-in_ok-run_one-in-One
+returns-in_ok-run_one-in-One c = one-records _ _ _ _ _ _ _ _ c.in_ok-question.ensures _ c.in-One.is _ c.in_ok-run_one-in-One.ensures
 
 pub returns-in-All : goal.returns-in-All
-returns-in-All c =
-    λ d s t t2 h. bounds-all d s t t2 _ h _ _ _ _ _ c.in-All.is c.no_records-in-All.ensures
-
-pub returns-in-One : goal.returns-in-One
-returns-in-One c =
-    λ d s t t2 h. bounds-one d s t t2 _ h _ _ _ _ c.in-One.is _ c.run_one-run.ensures
+returns-in-All c = all_without _ _ _ _ _ _ _ _ c.in_ok-question.ensures _ c.in-All.is

@@ -8,9 +8,9 @@ pub returns : goal.returns
 unfolding check_call
 returns c =
     let a = c.args in
-    let r = c.check_asked-r in
-    let k = r.ensures _ _ _ _ c.asked_by-asked.ensures in record {
-      result = call_result _ _ _ _ _ _ _ a.work.now _ _ k;
-      output = call_output _ _ _ _ _ _ _ a.work.now _ _ k;
+    let r = c.check_asked-checking in
+    record {
+      result = call_result _ _ _ _ _ _ _ a.work.now _ _ r.ensures;
+      output = call_output _ _ _ _ _ _ _ a.work.now _ _ r.ensures;
       cleared = area_cleared a.work.now r.new.work _ (omega arith) c.clear.ensures;
     }

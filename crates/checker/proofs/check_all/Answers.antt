@@ -1,33 +1,26 @@
-use borrow.Author.Rules.{rules}
-use Rattle.checker.proofs.Listing.{missing_inside, strings-there, list_uncommitted, list_refused, list_missing, list_there}
+use Rattle.std.proofs.lemmas.Result.{err_from_is_err_and}
+use Rattle.checker.proofs.Listing.{list_uncommitted, list_refused, missing-refused, missing_accepted, list_there}
 use Rattle.checker.proofs.check_all.Goals as goal
 
 pub returns-then-commitment-ne-DIGEST_WIDTH : goal.returns-then-commitment-ne-DIGEST_WIDTH
 returns-then-commitment-ne-DIGEST_WIDTH c =
-    λ size. list_uncommitted _ _ _ _ size c.if-commitment-ne-DIGEST_WIDTH.true _ c.refused.ensures
+    λ size. list_uncommitted _ _ _ _ size c.if-commitment-ne-DIGEST_WIDTH.true _ c.at.ensures
 
-pub end_here-r-requires : goal.end_here-r-requires
-end_here-r-requires c =
-    let h = missing_inside _ _ _ _ c.check_list.ensures _ c.in-NoEntity.is in search rules
+pub returns-in_err-at : goal.returns-in_err-at
+returns-in_err-at c =
+    let p = err_from_is_err_and c.from_residual.result c.from_residual.ensures.1 in
+    rw (p.1, p.2) (λ size. list_refused _ _ _ _ size c.if-commitment-ne-DIGEST_WIDTH.false _ c.in_err-at.ensures)
 
-pub give_list-requires : goal.give_list-requires
-give_list-requires c =
-    strings-there _ _ _ _ c.check_list.ensures _ _ _ c.in-Listed.is
+pub returns-in_err-end_here-in-NoEntity : goal.returns-in_err-end_here-in-NoEntity
+returns-in_err-end_here-in-NoEntity c =
+    let p = err_from_is_err_and c.from_residual-in_err-end_here-in-NoEntity.result c.from_residual-in_err-end_here-in-NoEntity.ensures.1 in
+    rw (p.1, p.2)
+    (λ size. missing-refused _ _ _ _ size c.if-commitment-ne-DIGEST_WIDTH.false _ c.in_ok-at.ensures _ c.in-NoEntity.is _ c.in_err-end_here-in-NoEntity.ensures)
 
-pub returns-in-Refused : goal.returns-in-Refused
-returns-in-Refused c =
-    λ size.
-    list_refused _ _ _ _ c.check_list.ensures c.if-commitment-ne-DIGEST_WIDTH.false _ size _ _ c.in-Refused.is _
-    c.refused-in-Refused.ensures
-
-pub returns-in-NoEntity : goal.returns-in-NoEntity
-returns-in-NoEntity c =
-    λ size.
-    list_missing _ _ _ _ c.check_list.ensures c.if-commitment-ne-DIGEST_WIDTH.false _ size _ c.in-NoEntity.is _
-    c.end_here-r.ensures
+pub returns-in_ok-end_here-in-NoEntity : goal.returns-in_ok-end_here-in-NoEntity
+returns-in_ok-end_here-in-NoEntity c =
+    λ size. missing_accepted _ _ _ _ size c.if-commitment-ne-DIGEST_WIDTH.false _ c.in_ok-at.ensures _ c.in-NoEntity.is _ c.in_ok-end_here-in-NoEntity.ensures
 
 pub returns-in-Listed : goal.returns-in-Listed
 returns-in-Listed c =
-    λ size.
-    list_there _ _ _ _ c.check_list.ensures c.if-commitment-ne-DIGEST_WIDTH.false _ size _ _ _
-    c.in-Listed.is _ _ c.give_list.ensures
+    λ size. list_there _ _ _ _ size c.if-commitment-ne-DIGEST_WIDTH.false _ c.in_ok-at.ensures _ _ _ c.in-Listed.is _ _ c.give_list.ensures

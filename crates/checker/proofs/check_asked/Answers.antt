@@ -1,18 +1,19 @@
-use Rattle.checker.proofs.Calls.{checks_unknown, checks_reversed, checks_one, checks_all}
+use Rattle.std.proofs.lemmas.Result.{err_from_is_err_and}
+use Rattle.checker.proofs.Calls.{checks_refused, one-refused, one-accepted, checks_all}
 use Rattle.checker.proofs.check_asked.Goals as goal
 
-pub returns-in-Unknown : goal.returns-in-Unknown
-returns-in-Unknown c =
-    λ d s t t2 h. checks_unknown d s t t2 _ h _ _ _ _ c.in-Unknown.is _ c.refused.ensures
+pub returns-in_err-question : goal.returns-in_err-question
+returns-in_err-question c =
+    let p = err_from_is_err_and c.from_residual.result c.from_residual.ensures.1 in
+    rw (p.1, p.2) (checks_refused _ _ _ _ _ _ _ _ _ c.in_err-question.ensures)
 
-pub returns-in-Reversed : goal.returns-in-Reversed
-returns-in-Reversed c =
-    λ d s t t2 h. checks_reversed d s t t2 _ h _ _ _ _ c.in-Reversed.is _ c.refused-in-Reversed.ensures
+pub returns-in_err-run_one-in-One : goal.returns-in_err-run_one-in-One
+returns-in_err-run_one-in-One c =
+    let p = err_from_is_err_and c.from_residual-in_err-run_one-in-One.result c.from_residual-in_err-run_one-in-One.ensures.1 in
+    rw (p.1, p.2) (one-refused _ _ _ _ _ _ _ _ c.in_ok-question.ensures _ c.in-One.is _ _ c.in_err-run_one-in-One.ensures)
 
-pub returns-in-One : goal.returns-in-One
-returns-in-One c =
-    λ d s t t2 h. checks_one d s t t2 _ h _ _ _ _ _ c.in-One.is _ c.run_one-r.ensures
+pub returns-in_ok-run_one-in-One : goal.returns-in_ok-run_one-in-One
+returns-in_ok-run_one-in-One c = one-accepted _ _ _ _ _ _ _ _ c.in_ok-question.ensures _ c.in-One.is _ _ c.in_ok-run_one-in-One.ensures
 
 pub returns-in-All : goal.returns-in-All
-returns-in-All c =
-    λ d s t t2 h. checks_all d s t t2 _ h _ _ _ _ _ c.in-All.is _ _ c.check_all.ensures
+returns-in-All c = checks_all _ _ _ _ _ _ _ _ c.in_ok-question.ensures _ c.in-All.is _ _ _ c.check_all.ensures

@@ -1,16 +1,22 @@
-use Rattle.checker.proofs.RowLaws.{more_bytes, idle_record, rows_go_on, ready-kept}
+use borrow.Author.Rules.{rules}
+use Rattle.checker.proofs.RowLaws.{more_bytes, idle_record, rows_go_on, ready-kept, lowest-there}
 use Rattle.checker.proofs.check_trace_rows.Goals as goal
 
-pub returns-then-end-answer : goal.returns-then-end-answer
-returns-then-end-answer c = more_bytes _ _ _ _ _ _ _ c.requires.0.4 c.if-end-answer.true
+pub returns-then-trace-answer : goal.returns-then-trace-answer
+returns-then-trace-answer c = more_bytes _ _ _ _ _ _ _ c.requires.0.4 c.if-trace-answer.true _ c.at.ensures
 
-pub returns-then-lowest-n : goal.returns-then-lowest-n
-returns-then-lowest-n c = idle_record _ _ _ _ _ _ _ c.requires.0.4 c.if-end-answer.false _ _ c.find_unreferenced-lowest.ensures c.if-lowest-n.true _ c.record_place-position.ensures
+pub record_place-requires : goal.record_place-requires
+record_place-requires c = (lowest-there _ _ _ _ c.requires.0.0 _ c.in-Some.ensures, search rules)
+
+pub returns-in-Some : goal.returns-in-Some
+returns-in-Some c =
+    idle_record _ _ _ _ _ _ _ c.requires.0.4 c.if-trace-answer.false _ _ c.in-Some.ensures _ c.record_place.ensures _ c.at-in-Some.ensures
 
 pub check_found_record-requires : goal.check_found_record-requires
-check_found_record-requires c = let r = c.requires in
+check_found_record-requires c =
+    let r = c.requires in
     let p = r.0 in
-    ((ready-kept _ _ _ _ _ p.0 c.find_unreferenced-lowest.ensures, p.1, p.2, p.3), r.1)
+    ((ready-kept _ _ _ _ p.0 c.in_default.ensures, p.1, p.2, p.3), r.1)
 
 pub returns : goal.returns
-returns c = rows_go_on _ _ _ _ _ _ _ c.requires.0.4 c.if-end-answer.false _ _ c.find_unreferenced-lowest.ensures c.if-lowest-n.false _ c.check_found_record.ensures
+returns c = rows_go_on _ _ _ _ _ _ _ c.requires.0.4 c.if-trace-answer.false _ c.in_default.ensures _ c.check_found_record.ensures

@@ -3,14 +3,6 @@ use Rattle.model.specs.Calls.{records_call}
 use Rattle.model.proofs.CallLaws.{area_cleared}
 use Rattle.checker.proofs.record_bounds.Goals as goal
 
-pub returns : goal.returns
+pub returns-clause-cleared : goal.returns-clause-cleared
 unfolding records_call
-returns c =
-    let a = c.args in
-    let r = c.bounds_asked-b in
-    let k = r.ensures _ _ _ _ c.asked_by-asked.ensures in
-    record {
-      result = k.are;
-      inside = k.within;
-      cleared = area_cleared a.work.now r.new.work _ (omega arith) c.clear.ensures;
-    }
+returns-clause-cleared c = area_cleared c.args.work.now c.bounds_asked-bounds.new.work _ (omega arith) c.clear.ensures

@@ -1,6 +1,6 @@
 use native.Mathlib.Omega.{arith}
 use Prim.Native.Nat.{◌+◌}
-use Rattle.fields.proofs.Loops.{got_none, got_short, got_more, got_all}
+use Rattle.fields.proofs.Loops.{got_none, got_short, got_more}
 use Rattle.fields.proofs.get.Goals as goal
 
 pub loop-i-init : goal.loop-i-init
@@ -16,6 +16,3 @@ overflow_add-r c =
 
 pub loop-i-preserved : goal.loop-i-preserved
 loop-i-preserved c = search got_more
-
-pub returns : goal.returns
-returns c = search got_all

@@ -1,6 +1,7 @@
 use borrow.Author.Rules.{rules}
 use native.Mathlib.Omega.{arith}
-use mathlib.Core.Path.{sym}
+use Prim.Native.Nat.{◌+◌}
+use mathlib.Core.Path.{◌≡◌, sym}
 use mathlib.Core.List.{[], ◌∷◌}
 use Rattle.graph.specs.Table.{columns}
 use Rattle.graph.proofs.Slots.{kept-none, kept_then}
@@ -15,40 +16,38 @@ overflow_sub-ranks c = omega (arith, c.loop-g-test.true)
 
 pub keep_batch-requires : goal.keep_batch-requires
 keep_batch-requires c = let l = c.loop-g in
-    ((l.invariant.size, l.invariant.trees, c.together-count.ensures.0, omega (arith, c.together-count.ensures.1, c.loop-g-test.true)), c.requires.1)
+    ((l.invariant.size, l.invariant.trees, omega (arith, c.min-count.ensures), omega (arith, c.min-count.ensures, c.loop-g-test.true)), c.requires.1)
 
 pub slice_bounds-digests-end : goal.slice_bounds-digests-end
 slice_bounds-digests-end c = sym c.keep_batch.ensures.strings.size
 
 pub digests-digests-requires : goal.digests-digests-requires
-digests-digests-requires c = ((omega (arith, c.keep_batch.ensures.strings.size), c.together-count.ensures.0), c.requires.1)
+digests-digests-requires c = ((omega (arith, c.keep_batch.ensures.strings.size), omega (arith, c.min-count.ensures)), c.requires.1)
 
 pub put_digests-requires : goal.put_digests-requires
-put_digests-requires c = (c.keep_batch.ensures.trees.ranked, c.together-count.ensures.0, omega (arith, c.together-count.ensures.1, c.loop-g-test.true))
-
-pub overflow_add-g : goal.overflow_add-g
-overflow_add-g c = let R = c.keep_batch.ensures.trees.ranked in
-    omega (arith, c.keep_batch.ensures.trees.inside, R.fewer, R.few)
-
-pub loop-g-smaller : goal.loop-g-smaller
-loop-g-smaller c = let h = c.loop-g-test.true in
-    omega (arith, c.together-count.ensures.1, c.together-count.ensures.2 (omega arith))
+put_digests-requires c = (c.keep_batch.ensures.trees.ranked, omega (arith, c.min-count.ensures), omega (arith, c.min-count.ensures, c.loop-g-test.true))
 
 pub loop-g-preserved : goal.loop-g-preserved
-loop-g-preserved c = let l = c.loop-g in
+loop-g-preserved c =
+    let l = c.loop-g in
     let B = c.keep_batch.ensures in
     let F = c.put_digests.ensures in
+    let e : c.min-count.result ≡ 8 = omega (arith, c.min-count.ensures) in
     record {
       kept = kept_then (columns 84 116 ∷ []) _ l.work _ l.invariant.kept (kept_then (columns 84 116 ∷ []) l.work _ _ B.kept F.kept);
-      trees = groups-more _ _ _ _ _ _ _ B.trees B.strings c.digests-digests.ensures F;
+      trees = rw e at (groups-more _ _ _ _ _ _ _ B.trees B.strings c.digests-digests.ensures F);
       size = B.strings.size;
     }
 
 pub shape_of-work : goal.shape_of-work
 shape_of-work c = c.loop-g.invariant.kept.size
 
-pub returns : goal.returns
-returns c = let l = c.loop-g in record {
-  kept = l.invariant.kept;
-  trees = entities_to_all _ _ _ _ _ c.loop-g-test.false l.invariant;
-}
+pub returns-clause-trees : goal.returns-clause-trees
+returns-clause-trees c = entities_to_all _ _ _ _ _ c.loop-g-test.false c.loop-g.invariant
+
+pub returns-2-clause-trees : goal.returns-2-clause-trees
+returns-2-clause-trees c =
+    let l = c.loop-g in
+    let B = c.keep_batch.ensures in
+    let e : l.g + c.min-count.result ≡ c.args.ranks.entities = omega (arith, c.min-count.ensures, c.loop-g-test.true) in
+    rw e at (groups-more _ _ _ _ _ _ _ B.trees B.strings c.digests-digests.ensures c.put_digests.ensures)

@@ -4,6 +4,3 @@ use Rattle.kept_trees.proofs.slots_at.Given as goal
 
 abbrev pub invariant-loop-l : goal.invariant-loop-l
 invariant-loop-l l = (l.l ≤ l.count) × SlotsAt l.work l.from l.l l.slots
-
-abbrev pub decreases-loop-l : goal.decreases-loop-l
-decreases-loop-l l = l.count - l.l

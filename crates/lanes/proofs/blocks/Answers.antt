@@ -1,9 +1,6 @@
 use Rattle.std.proofs.Common.{rules}
-use Rattle.lanes.proofs.Messages.{all_none, all_more, all-passed}
+use Rattle.lanes.proofs.Messages.{all_more, all-passed}
 use Rattle.lanes.proofs.blocks.Goals as goal
-
-pub loop-j-init : goal.loop-j-init
-loop-j-init c = search (all_none, rules)
 
 pub loop-j-preserved : goal.loop-j-preserved
 loop-j-preserved c = search (all_more, rules)

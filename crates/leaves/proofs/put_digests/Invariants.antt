@@ -4,6 +4,3 @@ use Rattle.leaves.proofs.put_digests.Given as goal
 
 abbrev pub invariant-loop-l : goal.invariant-loop-l
 invariant-loop-l l = (l.l ≤ l.count) × Filling l.initial.work l.from l.digests l.l l.work
-
-abbrev pub decreases-loop-l : goal.decreases-loop-l
-decreases-loop-l l = l.count - l.l

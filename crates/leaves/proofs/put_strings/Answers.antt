@@ -12,7 +12,7 @@ put_string-requires c = (omega (arith, c.requires.1, c.loop-l-test.true, c.loop-
 pub loop-l-preserved : goal.loop-l-preserved
 loop-l-preserved c = let l = c.loop-l in (
   omega (arith, c.loop-l-test.true),
-  strings-more c.args.work.now _ c.args.count l.l l.b _ c.requires.1 c.loop-l-test.true c.requires.2 c.put_string.ensures l.invariant.1,
+  strings-more c.args.work.now _ _ l.l l.b _ c.requires.1 c.loop-l-test.true c.requires.2 c.put_string.ensures l.invariant.1,
 )
 
 pub returns : goal.returns

@@ -1,66 +1,68 @@
-use mathlib.Core.Bool.{not}
+use Rattle.std.proofs.lemmas.Result.{err_from_is_err_and}
 use borrow.Author.Rules.{rules}
-use mathlib.Core.Path.{ap, sym, subst}
 use native.Mathlib.Omega.{arith}
-use Rattle.model.specs.Question.{spanned}
-use Rattle.proof_reader.specs.Spans.{SpanIs}
-use Rattle.proof_reader.proofs.Spans.{shut_here, halts_here, leaf-here, inner_there, left-refused, middle_there, both-here, counts_fit}
+use Rattle.proof_reader.proofs.Spans.{shut_here, halts_here, leaf-here, inner_there, left-refused, right-refused, all_read, both-here, counts_fit}
 use Rattle.proof_reader.proofs.+read_span.Goals as goal
 
 pub returns-then-not-meets : goal.returns-then-not-meets
-returns-then-not-meets t c =
-    λ s. shut_here (spanned s _ _) _ _ _ _ _ (c.meets.ensures s) (ap not c.if-not-meets.true) c.requires.0.0.0
+returns-then-not-meets t c = shut_here _ _ _ _ _ _ c.meets.ensures c.if-not-meets.true c.requires.0.0.0
+
+pub returns-in_err-open_due : goal.returns-in_err-open_due
+returns-in_err-open_due t c =
+    let p = err_from_is_err_and c.from_residual.result c.from_residual.ensures.1 in
+    rw (p.1, p.2) (halts_here _ _ _ _ _ _ c.meets.ensures c.if-not-meets.false _ c.in_err-open_due.ensures)
+
+pub returns-in-Leaf : goal.returns-in-Leaf
+returns-in-Leaf t c = leaf-here _ _ _ _ _ _ c.meets.ensures c.if-not-meets.false _ c.in_ok-open_due.ensures c.in-Leaf.is
 
 pub overflow_sub-n : goal.overflow_sub-n
 overflow_sub-n t c =
-    let h = inner_there _ _ _ _ _ c.open_due.ensures c.in-Inner.is in
+    let h = inner_there _ _ _ _ _ c.in_ok-open_due.ensures c.in-Inner.is in
     let h1 = h.1 in
     search rules
 
 pub read_span-requires : goal.read_span-requires
 read_span-requires t c =
-    let h = inner_there _ _ _ _ _ c.open_due.ensures c.in-Inner.is in
+    let h = inner_there _ _ _ _ _ c.in_ok-open_due.ensures c.in-Inner.is in
     let h0 = h.0 in
     let h1 = h.1 in
     let f = c.requires.0.1 in
     (omega arith, (((omega arith, omega arith), omega arith), c.requires.1))
 
-pub overflow_sub-n-in-Read : goal.overflow_sub-n-in-Read
-overflow_sub-n-in-Read t c =
-    let h = inner_there _ _ _ _ _ c.open_due.ensures c.in-Inner.is in
+pub returns-in_err-below-in-Inner : goal.returns-in_err-below-in-Inner
+returns-in_err-below-in-Inner t c =
+    let p = err_from_is_err_and c.from_residual-in_err-below-in-Inner.result c.from_residual-in_err-below-in-Inner.ensures.1 in
+    rw (p.1, p.2)
+    (left-refused _ _ _ _ _ _ c.meets.ensures c.if-not-meets.false _ c.in_ok-open_due.ensures c.in-Inner.is _ c.new-left.ensures _ c.in_err-below-in-Inner.ensures)
+
+pub overflow_sub-n-in-Inner : goal.overflow_sub-n-in-Inner
+overflow_sub-n-in-Inner t c =
+    let h = inner_there _ _ _ _ _ c.in_ok-open_due.ensures c.in-Inner.is in
     let h1 = h.1 in
     search rules
 
-pub read_span-requires-in-Read : goal.read_span-requires-in-Read
-read_span-requires-in-Read t c =
-    let h = inner_there _ _ _ _ _ c.open_due.ensures c.in-Inner.is in
+pub read_span-requires-in-Inner : goal.read_span-requires-in-Inner
+read_span-requires-in-Inner t c =
+    let h = inner_there _ _ _ _ _ c.in_ok-open_due.ensures c.in-Inner.is in
     let h0 = h.0 in
     let h1 = h.1 in
-    let m = middle_there _ _ _ _ _ _ (c.read_span.ensures 0) _ _ c.in-Read.is in
+    let m = (all_read _ _ _ _ _ _ c.in_ok-below-in-Inner.ensures).inside in
     let f = c.requires.0.1 in
     (omega arith, (((omega arith, omega arith), omega arith), c.requires.1))
 
-pub counted_on-requires : goal.counted_on-requires
-counted_on-requires t c =
-    counts_fit _ _ _ _ _ _ _ _ (c.read_span.ensures 0) c.in-Read.is _ _ _ (c.read_span-in-Read.ensures 0) c.requires.0.1
+pub returns-in_err-behind-in-Inner : goal.returns-in_err-behind-in-Inner
+returns-in_err-behind-in-Inner t c =
+    let p = err_from_is_err_and c.from_residual-in_err-behind-in-Inner.result c.from_residual-in_err-behind-in-Inner.ensures.1 in
+    rw (p.1, p.2)
+    (right-refused _ _ _ _ _ _ c.meets.ensures c.if-not-meets.false _ c.in_ok-open_due.ensures c.in-Inner.is _ c.new-left.ensures _ c.in_ok-below-in-Inner.ensures _
+    c.new-right.ensures _ c.in_err-behind-in-Inner.ensures)
 
-pub returns-in-Refused : goal.returns-in-Refused
-returns-in-Refused t c =
-    λ s. halts_here (spanned s _ _) _ _ _ _ _ (c.meets.ensures s) (ap not c.if-not-meets.false) _ c.open_due.ensures _ c.in-Refused.is
+pub overflow_add-result-in-Inner : goal.overflow_add-result-in-Inner
+overflow_add-result-in-Inner t c =
+    let h = counts_fit _ _ _ _ _ _ c.in_ok-below-in-Inner.ensures _ _ _ c.in_ok-behind-in-Inner.ensures c.requires.0.1 in
+    search rules
 
-pub returns-in-Leaf : goal.returns-in-Leaf
-returns-in-Leaf t c =
-    λ s. leaf-here (spanned s _ _) _ _ _ _ _ (c.meets.ensures s) (ap not c.if-not-meets.false) _ c.open_due.ensures c.in-Leaf.is
-
-pub returns-in-Refused-read_span : goal.returns-in-Refused-read_span
-returns-in-Refused-read_span t c =
-    λ s.
-    left-refused (spanned s _ _) _ _ _ _ _ (c.meets.ensures s) (ap not c.if-not-meets.false) _ c.open_due.ensures c.in-Inner.is _ (c.read_span.ensures s) _ _
-    c.in-Refused-read_span.is
-
-pub returns-in-Read : goal.returns-in-Read
-returns-in-Read t c =
-    λ s.
-    subst (SpanIs _ _) (sym c.counted_on.ensures)
-    (both-here (spanned s _ _) _ _ _ _ _ (c.meets.ensures s) (ap not c.if-not-meets.false) _ c.open_due.ensures c.in-Inner.is _ (c.read_span.ensures s) _ _
-    c.in-Read.is _ (c.read_span-in-Read.ensures s))
+pub returns-in_ok-behind-in-Inner : goal.returns-in_ok-behind-in-Inner
+returns-in_ok-behind-in-Inner t c =
+    both-here _ _ _ _ _ _ c.meets.ensures c.if-not-meets.false _ c.in_ok-open_due.ensures c.in-Inner.is _ c.new-left.ensures _ c.in_ok-below-in-Inner.ensures _
+    c.new-right.ensures _ c.in_ok-behind-in-Inner.ensures

@@ -1,17 +1,14 @@
-use Rattle.proof_reader.proofs.Walking.{group-there}
+use Rattle.std.proofs.lemmas.Result.{err_from_is_err_and}
 use Rattle.proof_reader.proofs.Listing.{all-refused, all_missing, all-sought}
 use Rattle.proof_reader.proofs.check_list.Goals as goal
 
-pub list_group-requires : goal.list_group-requires
-list_group-requires c =
-    (group-there _ _ _ _ c.find_entity.ensures _ c.in-Group.is, c.requires.1)
-
-pub returns-in-Refused : goal.returns-in-Refused
-returns-in-Refused c = all-refused _ _ _ _ _ _ _ _ c.find_entity.ensures _ _ c.in-Refused.is
+pub returns-in_err-end : goal.returns-in_err-end
+returns-in_err-end c =
+    let p = err_from_is_err_and c.from_residual.result c.from_residual.ensures.1 in
+    rw (p.1, p.2) (all-refused _ _ _ _ _ _ c.in_err-end.ensures)
 
 pub returns-in-NoEntity : goal.returns-in-NoEntity
-returns-in-NoEntity c = all_missing _ _ _ _ _ _ _ _ c.find_entity.ensures _ c.in-NoEntity.is
+returns-in-NoEntity c = all_missing _ _ _ _ _ _ c.in_ok-end.ensures _ c.in-NoEntity.is
 
 pub returns-in-Group : goal.returns-in-Group
-returns-in-Group c =
-    all-sought _ _ _ _ _ _ _ _ c.find_entity.ensures _ c.in-Group.is _ c.list_group.ensures
+returns-in-Group c = all-sought _ _ _ _ _ _ c.in_ok-end.ensures _ c.in-Group.is _ c.list_group.ensures

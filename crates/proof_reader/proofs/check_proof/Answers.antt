@@ -1,25 +1,14 @@
-use borrow.Author.Rules.{rules}
-use Rattle.proof_reader.proofs.Walking.{group-there, one-refused, one_missing, one-sought}
+use Rattle.std.proofs.lemmas.Result.{err_from_is_err_and}
+use Rattle.proof_reader.proofs.Walking.{one-refused, one_missing, one-sought}
 use Rattle.proof_reader.proofs.check_proof.Goals as goal
 
-pub overflow_add-known : goal.overflow_add-known
-overflow_add-known c =
-    let h = group-there _ _ _ _ c.find_entity.ensures _ c.in-Group.is in search rules
-
-pub overflow_add-group : goal.overflow_add-group
-overflow_add-group c =
-    let h = group-there _ _ _ _ c.find_entity.ensures _ c.in-Group.is in search rules
-
-pub walk_versions-requires : goal.walk_versions-requires
-walk_versions-requires c =
-    let h = group-there _ _ _ _ c.find_entity.ensures _ c.in-Group.is in search rules
-
-pub returns-in-Refused : goal.returns-in-Refused
-returns-in-Refused c = one-refused _ _ _ _ _ _ c.find_entity.ensures _ _ c.in-Refused.is
+pub returns-in_err-end : goal.returns-in_err-end
+returns-in_err-end c =
+    let p = err_from_is_err_and c.from_residual.result c.from_residual.ensures.1 in
+    rw (p.1, p.2) (one-refused _ _ _ _ _ _ c.in_err-end.ensures)
 
 pub returns-in-NoEntity : goal.returns-in-NoEntity
-returns-in-NoEntity c = one_missing _ _ _ _ _ _ c.find_entity.ensures _ c.in-NoEntity.is
+returns-in-NoEntity c = one_missing _ _ _ _ _ _ c.in_ok-end.ensures _ c.in-NoEntity.is
 
 pub returns-in-Group : goal.returns-in-Group
-returns-in-Group c =
-    one-sought _ _ _ _ _ _ c.find_entity.ensures _ c.in-Group.is _ c.walk_versions.ensures
+returns-in-Group c = one-sought _ _ _ _ _ _ c.in_ok-end.ensures _ c.in-Group.is _ c.new-root.ensures _ c.walk_versions.ensures

@@ -1,8 +1,9 @@
-use Rattle.proof_reader.proofs.Spans.{too_late, in_time}
+use Rattle.proof_reader.proofs.Spans.{key_at_most, too_late, in_time}
 use Rattle.proof_reader.proofs.meets.Goals as goal
 
-pub returns-then-below : goal.returns-then-below
-returns-then-below c = search too_late
+pub returns-then-le : goal.returns-then-le
+returns-then-le c =
+    in_time _ _ _ _ c.least.ensures _ (key_at_most _ _ _ c.le.ensures) c.if-le.true _ c.greatest.ensures _ (key_at_most _ _ _ c.le-then-le.ensures)
 
-pub returns : goal.returns
-returns c = search in_time
+pub returns-else-le : goal.returns-else-le
+returns-else-le c = too_late _ _ _ _ c.least.ensures _ (key_at_most _ _ _ c.le.ensures) c.if-le.false

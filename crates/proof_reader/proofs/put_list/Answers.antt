@@ -1,15 +1,9 @@
 use borrow.Author.Rules.{rules}
-use Rattle.proof_reader.proofs.Listing.{none_written, same_size, all-written, L_there, one_written, N_there, none_more}
+use Rattle.proof_reader.proofs.Listing.{none_written, same_size, all-written, L_there, one_written, none_more}
 use Rattle.proof_reader.proofs.put_list.Goals as goal
 
 pub loop-next-init : goal.loop-next-init
 loop-next-init c = search none_written
-
-pub bounds-answer-next : goal.bounds-answer-next
-bounds-answer-next c =
-    let l = c.requires in
-    let h = l.inside in
-    search rules
 
 pub put_name-requires : goal.put_name-requires
 put_name-requires c =
@@ -24,31 +18,13 @@ overflow_add-at c =
     let e = same_size _ _ _ _ l _ _ _ (c.loop-next.invariant l) in
     search rules
 
-pub overflow_add-next : goal.overflow_add-next
-overflow_add-next c =
-    let l = c.requires in
-    let h = L_there _ _ _ _ l _ _ _ (c.loop-next.invariant l) c.loop-next-test.true c.if-answer-next-eq-LETTER_L.true in
-    let h0 = h.0 in
-    search rules
-
 pub loop-next-preserved-then-answer-next-eq-LETTER_L : goal.loop-next-preserved-then-answer-next-eq-LETTER_L
 loop-next-preserved-then-answer-next-eq-LETTER_L c =
     λ l. one_written _ _ _ _ l _ _ _ (c.loop-next.invariant l) c.loop-next-test.true c.if-answer-next-eq-LETTER_L.true _ c.put_name.ensures
 
-pub overflow_add-next-else-answer-next-eq-LETTER_L : goal.overflow_add-next-else-answer-next-eq-LETTER_L
-overflow_add-next-else-answer-next-eq-LETTER_L c =
-    let l = c.requires in
-    let h = N_there _ _ _ _ l _ _ _ (c.loop-next.invariant l) c.loop-next-test.true c.if-answer-next-eq-LETTER_L.false in
-    search rules
-
 pub loop-next-preserved : goal.loop-next-preserved
 loop-next-preserved c =
     λ l. none_more _ _ _ _ l _ _ _ (c.loop-next.invariant l) c.loop-next-test.true c.if-answer-next-eq-LETTER_L.false
-
-pub shape_of-out : goal.shape_of-out
-shape_of-out c =
-    let l = c.requires in
-    same_size _ _ _ _ l _ _ _ (c.loop-next.invariant l)
 
 pub returns : goal.returns
 returns c = λ l. all-written _ _ _ _ l _ _ _ (c.loop-next.invariant l) c.loop-next-test.false

@@ -5,9 +5,9 @@ use Rattle.proof_reader.specs.Walks.{versions_at}
 use Rattle.proof_reader.proofs.Walking.{Walking}
 use Rattle.proof_reader.proofs.walk_versions.Given as goal
 
-abbrev pub invariant-loop-time : goal.invariant-loop-time
-invariant-loop-time l =
-    Walking l.answer (versions_at (relation_of l.relation) l.time.0 l.answer) l.initial.next l.initial.tree.0 l.next l.tree.0
+abbrev pub invariant-loop-question : goal.invariant-loop-question
+invariant-loop-question l =
+    Walking l.answer (versions_at (relation_of l.question.relation) l.question.time.0 l.answer) l.initial.at l.initial.tree.at l.at l.tree.at
 
-abbrev pub decreases-loop-time : goal.decreases-loop-time
-decreases-loop-time l = length l.answer - l.next
+abbrev pub decreases-loop-question : goal.decreases-loop-question
+decreases-loop-question l = length l.answer - l.at

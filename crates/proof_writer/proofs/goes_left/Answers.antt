@@ -1,3 +1,4 @@
+use Rattle.question.proofs.Keys.{key_at_most}
 use Rattle.proof_writer.proofs.Seeking.{among-entity, among-version, entity-left, left-entity, left-version}
 use native.Mathlib.Omega.{arith}
 use Rattle.proof_writer.proofs.goes_left.Goals as goal
@@ -23,7 +24,7 @@ version_left-requires c =
 pub returns-in-ByEntity : goal.returns-in-ByEntity
 returns-in-ByEntity c =
     left-entity c.args.descent c.args.work.now c.args.ranks c.args.leaves.from c.args.leaves.n c.args.k _ _ c.in-ByEntity.is
-    (entity-left c.args.work.now c.args.ranks c.args.leaves c.args.k c.requires.2 c.requires.3 _ _ _ c.entity_at.ensures c.below.ensures)
+    (entity-left c.args.work.now c.args.ranks c.args.leaves c.args.k c.requires.2 c.requires.3 _ _ _ c.entity_at.ensures (key_at_most _ _ _ c.le.ensures))
 
 pub returns-in-ByTime : goal.returns-in-ByTime
 returns-in-ByTime c =

@@ -1,3 +1,4 @@
+use Rattle.question.proofs.Keys.{key_below}
 use Rattle.proof_writer.proofs.Seeking.{outside_low, outside_high}
 use native.Mathlib.Omega.{arith}
 use Rattle.proof_writer.proofs.outside.Goals as goal
@@ -6,9 +7,9 @@ pub entity_at-requires : goal.entity_at-requires
 entity_at-requires c =
     (c.requires.0, omega (arith, c.requires.1.some, c.requires.1.inside))
 
-pub returns-then-below : goal.returns-then-below
-returns-then-below c =
-    outside_low c.args.work.now c.args.ranks c.args.leaves c.args.entity.0 c.requires.1.some _ _ c.entity_at.ensures c.below.ensures c.if-below.true
+pub returns-then-lt : goal.returns-then-lt
+returns-then-lt c =
+    outside_low c.args.work.now c.args.ranks c.args.leaves c.args.entity.0 c.requires.1.some _ _ c.entity_at.ensures (key_below _ _ _ c.lt.ensures) c.if-lt.true
 
 pub overflow_sub-leaves : goal.overflow_sub-leaves
 overflow_sub-leaves c =
@@ -24,4 +25,4 @@ entity_at-requires-2 c =
 
 pub returns : goal.returns
 returns c =
-    outside_high c.args.work.now c.args.ranks c.args.leaves c.args.entity.0 c.requires.1.some _ _ _ _ c.entity_at.ensures c.below.ensures c.if-below.false c.entity_at-2.ensures c.below-2.ensures
+    outside_high c.args.work.now c.args.ranks c.args.leaves c.args.entity.0 c.requires.1.some _ _ _ _ c.entity_at.ensures (key_below _ _ _ c.lt.ensures) c.if-lt.false c.entity_at-2.ensures (key_below _ _ _ c.lt-2.ensures)

@@ -1,6 +1,6 @@
 use mathlib.Core.Path.{refl}
 use Rattle.kept_trees.proofs.Graphs.{entities-are}
-use Rattle.proof_writer.specs.Walks.{query_of}
+use Rattle.question.specs.Directions.{query_of}
 use Rattle.proof_writer.proofs.Seeking.{stopped_leads, reached_leads, sought-stopped, sought-reached, entity-sought}
 use Rattle.proof_writer.proofs.Planning.{inside-group, plan-absent, reaches}
 use native.Mathlib.Omega.{arith}

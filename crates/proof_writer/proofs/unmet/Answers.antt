@@ -1,3 +1,4 @@
+use Rattle.question.proofs.Keys.{key_below}
 use Rattle.proof_writer.proofs.Seeking.{unmet_back, unmet_ahead}
 use native.Mathlib.Omega.{arith}
 use Rattle.proof_writer.proofs.unmet.Goals as goal
@@ -20,8 +21,8 @@ time_at-requires-in-AtOrAfter c =
 
 pub returns-in-AtOrBefore : goal.returns-in-AtOrBefore
 returns-in-AtOrBefore c =
-    unmet_back c.args.work.now c.args.ranks c.args.leaves c.args.relation c.args.time.0 c.requires.1.some _ _ c.in-AtOrBefore.is c.time_at.ensures c.below.ensures
+    unmet_back c.args.work.now c.args.ranks c.args.leaves c.args.relation c.args.time.0 c.requires.1.some _ _ c.in-AtOrBefore.is c.time_at.ensures (key_below _ _ _ c.lt.ensures)
 
 pub returns-in-AtOrAfter : goal.returns-in-AtOrAfter
 returns-in-AtOrAfter c =
-    unmet_ahead c.args.work.now c.args.ranks c.args.leaves c.args.relation c.args.time.0 c.requires.1.some _ _ c.in-AtOrAfter.is c.time_at-in-AtOrAfter.ensures c.below-in-AtOrAfter.ensures
+    unmet_ahead c.args.work.now c.args.ranks c.args.leaves c.args.relation c.args.time.0 c.requires.1.some _ _ c.in-AtOrAfter.is c.time_at-in-AtOrAfter.ensures (key_below _ _ _ c.lt-in-AtOrAfter.ensures)

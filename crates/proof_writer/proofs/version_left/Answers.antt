@@ -1,3 +1,4 @@
+use Rattle.question.proofs.Keys.{key_below, key_at_most}
 use Rattle.proof_writer.proofs.Seeking.{left_back, left_ahead}
 use native.Mathlib.Omega.{arith}
 use Rattle.proof_writer.proofs.version_left.Goals as goal
@@ -24,8 +25,8 @@ time_at-requires-in-AtOrAfter c =
 
 pub returns-in-AtOrBefore : goal.returns-in-AtOrBefore
 returns-in-AtOrBefore c =
-    left_back c.args.work.now c.args.ranks c.args.leaves c.args.k c.requires.2 c.requires.3 c.args.relation c.args.time.0 _ _ c.in-AtOrBefore.is c.time_at.ensures c.below.ensures
+    left_back c.args.work.now c.args.ranks c.args.leaves c.args.k c.requires.2 c.requires.3 c.args.relation c.args.time.0 _ _ c.in-AtOrBefore.is c.time_at.ensures (key_below _ _ _ c.lt.ensures)
 
 pub returns-in-AtOrAfter : goal.returns-in-AtOrAfter
 returns-in-AtOrAfter c =
-    left_ahead c.args.work.now c.args.ranks c.args.leaves c.args.k c.requires.2 c.requires.3 c.args.relation c.args.time.0 _ _ c.in-AtOrAfter.is c.time_at-in-AtOrAfter.ensures c.below-in-AtOrAfter.ensures
+    left_ahead c.args.work.now c.args.ranks c.args.leaves c.args.k c.requires.2 c.requires.3 c.args.relation c.args.time.0 _ _ c.in-AtOrAfter.is c.time_at-in-AtOrAfter.ensures (key_at_most _ _ _ c.le.ensures)

@@ -10,7 +10,7 @@ returns-then-n-fill c =
       room,
       λ m q. record {
         held = held_all_short c.placed-b.result s.more.now room c.placed-b.ensures q.held;
-        count = count-more m s.more.now s.s.total c.wrapping_add_u64-total.result q.count c.wrapping_add_u64-total.ensures.value;
+        count = count-more m s.more.now s.s.total q.count;
       },
     )
 
@@ -28,6 +28,6 @@ returns c =
         held =
             held-rest m s.s.block c.placed-b-2.result more begun whole rest fits (omega arith) c.placed-b-2.ensures
             (held_blocks c.blocks-whole.result more begun whole (omega arith) c.blocks-whole.ensures (c.completed-first.ensures m q.held));
-        count = count-more m more s.s.total c.wrapping_add_u64-total.result q.count c.wrapping_add_u64-total.ensures.value;
+        count = count-more m more s.s.total q.count;
       },
     )

@@ -1,9 +1,6 @@
 use Rattle.std.proofs.Common.{rules}
-use Rattle.sha256.proofs.Arrays.{added_none, added_more, added_all}
+use Rattle.sha256.proofs.Arrays.{added_more, added_all}
 use Rattle.sha256.proofs.added.Goals as goal
-
-pub loop-i-init : goal.loop-i-init
-loop-i-init c = search (added_none, rules)
 
 pub loop-i-preserved : goal.loop-i-preserved
 loop-i-preserved c = search (added_more, rules)

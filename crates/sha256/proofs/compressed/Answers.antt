@@ -2,17 +2,9 @@ use Rattle.std.proofs.Common.{◌≡◌, ℕ, List, refl, ap, ◌∙◌, ap₂, 
 use Rattle.sha256.specs.Sha256.{extended, schedule, rounds, sums, compress}
 use Rattle.sha256.proofs.compressed.Goals as goal
 
-pub extend-requires : goal.extend-requires
-extend-requires c = c.load.ensures.0
-
 pub loop-t-init : goal.loop-t-init
 unfolding rounds
 loop-t-init c = (omega arith, (refl, refl))
-
-pub loop-t-preserved : goal.loop-t-preserved
-loop-t-preserved c =
-    let l = c.loop-t in
-    (omega arith, (omega arith, c.eight_rounds-next.ensures _ l.invariant.1.1))
 
 pub returns : goal.returns
 unfolding compress schedule

@@ -1,4 +1,4 @@
-use Rattle.std.proofs.Common.{◌≡◌, ◌+◌, length, take, refl, arith, length-take-le}
+use Rattle.std.proofs.Common.{◌≡◌, length, take, refl, arith, length-take-le}
 use Rattle.sha256.proofs.Schedule.{words-none, words-all}
 use Rattle.sha256.proofs.extend.Goals as goal
 
@@ -7,12 +7,6 @@ loop-t-init c =
     let w = c.args.w.now in
     let size : length w ≡ 64 = c.requires in
     (omega arith, (refl, words-none (take 16 w) w (length-take-le 16 w (omega arith)) size refl))
-
-pub loop-t-preserved : goal.loop-t-preserved
-loop-t-preserved c =
-    let l = c.loop-t in
-    let e : l.t + 20 ≡ l.t + 4 + 16 = omega arith in
-    (omega arith, (omega arith, rw e at (c.four_words.ensures _ l.invariant.1.1)))
 
 pub returns : goal.returns
 returns c = words-all c.loop-t.invariant.1.1 (omega arith)

@@ -3,12 +3,6 @@ use Rattle.fields.specs.Fields.{part}
 use Rattle.sha256.proofs.Padding.{sha256-held}
 use Rattle.sha256.proofs.finish.Goals as goal
 
-pub closed-requires : goal.closed-requires
-closed-requires c =
-    let s = c.args.s in
-    let n : length s.block ≡ 64 = search rules in
-    (c.requires.0, (omega arith, c.requires.1))
-
 pub returns : goal.returns
 unfolding part
 returns c = λ m q.

@@ -1,5 +1,5 @@
 use Rattle.std.proofs.Common.{rules}
-use Rattle.sha256.proofs.Arrays.{loaded_none, loaded_more, loaded_all}
+use Rattle.sha256.proofs.Arrays.{loaded_none, loaded_more}
 use Rattle.sha256.proofs.load.Goals as goal
 
 pub loop-t-init : goal.loop-t-init
@@ -7,6 +7,3 @@ loop-t-init c = search (loaded_none, rules)
 
 pub loop-t-preserved : goal.loop-t-preserved
 loop-t-preserved c = search loaded_more
-
-pub returns : goal.returns
-returns c = (c.loop-t.invariant.long, search loaded_all)

@@ -3,4 +3,4 @@ use Rattle.sha256.proofs.Rotations.{nested-σ0}
 use Rattle.sha256.proofs.small_sigma0.Goals as goal
 
 pub returns : goal.returns
-returns c = nested-σ0 c.args.x (omega arith)
+returns c = rw (c.rotate_right-2.ensures, c.rotate_right.ensures) (nested-σ0 c.args.x (omega arith))

@@ -6,11 +6,11 @@ use Rattle.trace_reader.proofs.values_row.Goals as goal
 pub get_u64-requires : goal.get_u64-requires
 get_u64-requires c = omega (arith, width_least c.args.letter)
 
-pub returns-then-later : goal.returns-then-later
-returns-then-later c = search meets_neither
+pub returns-then-not-positions_below : goal.returns-then-not-positions_below
+returns-then-not-positions_below c = search meets_20
 
-pub returns-then-positions_below : goal.returns-then-positions_below
-returns-then-positions_below c = search meets_21
+pub returns-then-not-later : goal.returns-then-not-later
+returns-then-not-later c = search meets_21
 
 pub returns : goal.returns
-returns c = search meets_20
+returns c = search meets_neither

@@ -4,6 +4,3 @@ use Rattle.trace_writer.proofs.mark_forward.Given as goal
 
 abbrev pub invariant-loop-i : goal.invariant-loop-i
 invariant-loop-i l = ForTurn l.initial.work l.work l.n l.v l.i
-
-abbrev pub decreases-loop-i : goal.decreases-loop-i
-decreases-loop-i l = l.n - l.i

@@ -4,6 +4,3 @@ use Rattle.trace_writer.proofs.set_positions.Given as goal
 
 abbrev pub invariant-loop-i : goal.invariant-loop-i
 invariant-loop-i l = Positioning l.initial.work l.work l.n l.position l.i
-
-abbrev pub decreases-loop-i : goal.decreases-loop-i
-decreases-loop-i l = l.n - l.i

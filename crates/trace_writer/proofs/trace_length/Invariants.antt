@@ -4,6 +4,3 @@ use Rattle.trace_writer.proofs.trace_length.Given as goal
 
 abbrev pub invariant-loop-i : goal.invariant-loop-i
 invariant-loop-i l = Measuring l.work l.n l.length l.i
-
-abbrev pub decreases-loop-i : goal.decreases-loop-i
-decreases-loop-i l = l.n - l.i
