@@ -419,7 +419,8 @@ fn bounds_asked(
 ) -> Result<Bounds, Refusal>
     ensures { BoundsAre answer.now (run direction entity.0 time.0 until.0 commitment.now answer.now (length work.old)) result }
 {
-    match question::asked_by(direction, entity, time, until)? {
+    let query = question::asked_by(direction, entity, time, until)?;
+    match query {
         Query::One { question } => Ok(run_one(question, commitment, answer, work)?.records),
         Query::All { .. } => Ok(NO_RECORDS),
     }
